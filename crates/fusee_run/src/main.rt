@@ -1,0 +1,35 @@
+//! The program: `fusee_run script` reads a script from standard input, and writes its trace and its
+//! history to standard output.
+#![tactic(auto)]
+
+use fusee_top::offline;
+use outside::{StdSink, StdSource};
+use std::env;
+use std::io::ErrorKind;
+use std::process::ExitCode;
+
+// The status of want of memory.
+const NO_MEMORY: u8 = 6;
+
+fn main(rt: HostRuntime) -> ExitCode {
+    let mut words = Vec::new(rt.alloc());
+    match env::args(&rt) {
+        // The first word is the program's name.
+        Ok(args) => {
+            for word in args.skip(1) {
+                if words.push(word).is_err() {
+                    return ExitCode::from(NO_MEMORY);
+                }
+            }
+        }
+        Err(error) => {
+            if error.kind() == ErrorKind::OutOfMemory {
+                return ExitCode::from(NO_MEMORY);
+            }
+            // A word that is no text is no command: no words are left, and that is told.
+        }
+    }
+    let mut source = StdSource::new(rt.stdin());
+    let mut sink = StdSink::new(rt.stdout());
+    ExitCode::from(offline(rt.alloc(), &words, &mut source, &mut sink))
+}

@@ -1,0 +1,10 @@
+pub mod Form
+pub mod Input
+pub mod Offline
+pub mod Parsed
+pub mod Records
+pub mod Run
+pub mod Shown
+pub mod Text
+pub mod Told
+pub mod Written

@@ -1,0 +1,17 @@
+-- What a writer of a text did to its sink.
+use Rattle.std.specs.Prelude.{ℕ, List, Option, Result, Ok, Err}
+use Rattle.std.specs.Io.KnownBytes.{Appends}
+use Rattle.outside.specs.Appended.{AppendsFront}
+use Rattle.outside.specs.Faults.{Rose}
+use Rattle.fusee_top.specs.declared.writing.Unwritten.{Unwritten}
+use Rattle.fusee_top.specs.declared.writing.Unwritten.TheVariants.{Fault, NoMemory}
+
+-- the writing stopped, with a fault that was counted or for want of memory: a front of the text was appended
+abbrev pub Stops : Option (List ℕ) → Option (List ℕ) → ℕ → ℕ → Unwritten → List ℕ → Type 0
+Stops held held' faults faults' Fault text = Rose faults faults' × AppendsFront held held' text
+Stops held held' faults faults' NoMemory text = AppendsFront held held' text
+
+-- all of the text was appended, or the writing stopped
+abbrev pub Writes : {T : Type 0} → Option (List ℕ) → Option (List ℕ) → ℕ → ℕ → Result T Unwritten → List ℕ → Type 0
+Writes held held' faults faults' (Ok value) text = Appends held held' text
+Writes held held' faults faults' (Err why) text = Stops held held' faults faults' why text

@@ -1,0 +1,4 @@
+pub mod ExampleLemmas
+pub mod HeldLemmas
+pub mod LinearLemmas
+pub mod MapLemmas

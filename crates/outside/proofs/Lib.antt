@@ -1,0 +1,3 @@
+pub mod AppendedLemmas
+pub mod FaultsLemmas
+pub mod MemoryLemmas

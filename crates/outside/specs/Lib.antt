@@ -1,0 +1,6 @@
+pub mod Appended
+pub mod Faults
+pub mod Memory
+pub mod Sink
+pub mod Source
+pub mod Std

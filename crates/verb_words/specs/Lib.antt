@@ -1,0 +1,3 @@
+pub mod Verb
+pub mod Words
+pub mod Applied
