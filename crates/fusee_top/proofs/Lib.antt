@@ -3,6 +3,7 @@ pub mod ListLemmas
 pub mod OfflineLemmas
 pub mod RecordsLemmas
 pub mod RunLemmas
+pub mod SpelledLemmas
 pub mod ToldLemmas
 pub mod WordLemmas
 pub mod WrittenLemmas

@@ -19,8 +19,8 @@ pub record GaveMore (left left' : Option (List ℕ)) : Type 0 where
   pub over : LIMIT < length given
 
 -- what reading a source to its end came to
-abbrev pub IsInput : Option (List ℕ) → Option (List ℕ) → ℕ → ℕ → Input → Type 0
-IsInput left left' faults faults' (input.Whole text) = WasAll left left' text
-IsInput left left' faults faults' input.TooLarge = GaveMore left left'
-IsInput left left' faults faults' input.Failed = Rose faults faults'
-IsInput left left' faults faults' input.NoMemory = Unit {0}
+abbrev pub IsInput : {S : Type 0} → (S → Option (List ℕ)) → (S → ℕ) → S → S → Input → Type 0
+IsInput left faults before now (input.Whole text) = WasAll (left before) (left now) text
+IsInput left faults before now input.TooLarge = GaveMore (left before) (left now)
+IsInput left faults before now input.Failed = Rose (faults before) (faults now)
+IsInput left faults before now input.NoMemory = Unit {0}

@@ -5,6 +5,7 @@ pub mod Parsed
 pub mod Records
 pub mod Run
 pub mod Shown
+pub mod Spelled
 pub mod Text
 pub mod Told
 pub mod Written

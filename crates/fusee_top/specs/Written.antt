@@ -11,7 +11,7 @@ abbrev pub Stops : Option (List ℕ) → Option (List ℕ) → ℕ → ℕ → U
 Stops held held' faults faults' Fault text = Rose faults faults' × AppendsFront held held' text
 Stops held held' faults faults' NoMemory text = AppendsFront held held' text
 
--- all of the text was appended, or the writing stopped
-abbrev pub Writes : {T : Type 0} → Option (List ℕ) → Option (List ℕ) → ℕ → ℕ → Result T Unwritten → List ℕ → Type 0
-Writes held held' faults faults' (Ok value) text = Appends held held' text
-Writes held held' faults faults' (Err why) text = Stops held held' faults faults' why text
+-- what a writer answers, and what the sink holds before and after: all of the text was appended, or the writing stopped
+abbrev pub Writes : {K T : Type 0} → (K → Option (List ℕ)) → (K → ℕ) → K → K → Result T Unwritten → List ℕ → Type 0
+Writes held faults before now (Ok value) text = Appends (held before) (held now) text
+Writes held faults before now (Err why) text = Stops (held before) (held now) (faults before) (faults now) why text

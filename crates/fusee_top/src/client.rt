@@ -28,7 +28,8 @@ impl Model for Client {
 
     ghost view = { λ client. drop client.first (words_on client.nodes 1) };
 
-    ghost invariant = { λ client. (map length client.nodes ≡ 9 ∷ 32 ∷ []) × (client.first ≤ 32) };
+    ghost invariant = { λ client.
+        (map length client.nodes ≡ 9 ∷ 32 ∷ []) × (client.first ≤ 32) };
 }
 
 impl Client {

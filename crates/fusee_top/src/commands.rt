@@ -1,7 +1,7 @@
 ghost use Rattle.std.specs.Prelude.{◌≡◌, ℕ, ◌⊎◌, ◌++◌, List, OnOk, Some, codes, map, true, false};
 ghost use Rattle.std.specs.Io.KnownBytes.{Appends};
 ghost use Rattle.std.specs.String.{string_bytes};
-ghost use Rattle.outside.specs.Faults.{Rose};
+ghost use Rattle.outside.specs.Faults.{IsSteady, Rose};
 ghost use Rattle.fusee_top.specs.Input.{GaveMore};
 ghost use Rattle.fusee_top.specs.Offline.{Answers, Ends, EndsIn, IsNotBuilt, IsStatus, RanWhole, ended, input_status, is_script, notice_status, notice_text, script_status, script_text};
 
@@ -40,48 +40,59 @@ pub enum Notice {
 
 /// Carries out the command that the words name, over a source and a sink, and answers the status.
 ///
-/// The only command is `script`: it reads a script to its end, runs it, and writes its trace and its
-/// history. A status whose text could not be written gives way to 5 where a write failed, and to 6
-/// where memory was wanting; of that text the sink then holds a front.
+/// The only command is `script`: it reads a script to its end, runs it, and writes its trace and
+/// its history. A status whose text could not be written gives way to 5 where a write failed, and
+/// to 6 where memory was wanting; of that text the sink then holds a front.
 pub fn offline<S: Source, K: Sink>(
     alloc: Global,
     words: &[String],
     source: &mut S,
     sink: &mut K,
 ) -> u8
-    // 0: the source was read to its end, its text is a script, the sink grew by the text of its run,
-    // and the history in it is a linearization of its trace.
-    ensures whole { result ≡ 0 → RanWhole (S.left source.old) (S.left source.new) (K.held sink.old) (K.held sink.new) }
+    // 0: the source was read to its end, its text is a script, the sink grew by the text of its
+    // run, and the history in it is a linearization of its trace.
+    ensures whole { result ≡ 0 → RanWhole
+        (S.left source.old) (S.left source.new) (K.held sink.old) (K.held sink.new) }
     // 2: exactly where the words are no command.
-    ensures usage { result ≡ 2 → (is_script (map string_bytes words.now) ≡ false) × Appends (K.held sink.old) (K.held sink.new) (codes "usage\n") }
+    ensures usage { result ≡ 2 → (is_script (map string_bytes words.now) ≡ false)
+        × Appends (K.held sink.old) (K.held sink.new) (codes "usage\n") }
     ensures only_usage { is_script (map string_bytes words.now) ≡ false → EndsIn 2 result }
     // 4: only where a read failed.
-    ensures read_fault { result ≡ 4 → Rose (S.faults source.old) (S.faults source.new) × Appends (K.held sink.old) (K.held sink.new) (codes "read fault\n") }
+    ensures read_fault { result ≡ 4 → Rose (S.faults source.old) (S.faults source.new)
+        × Appends (K.held sink.old) (K.held sink.new) (codes "read fault\n") }
     // 5: only where a write failed.
     ensures write_fault { result ≡ 5 → Rose (K.faults sink.old) (K.faults sink.new) }
     // 7: exactly where more bytes were given than an input may have, and no read failed before.
-    ensures too_large { result ≡ 7 → GaveMore (S.left source.old) (S.left source.new) × Appends (K.held sink.old) (K.held sink.new) (codes "too large 4194305\n") }
+    ensures too_large { result ≡ 7 → GaveMore (S.left source.old) (S.left source.new)
+        × Appends (K.held sink.old) (K.held sink.new) (codes "too large 4194305\n") }
     // 8: exactly where the input is no script; the text names its first line that leaves the form.
-    ensures not_built { result ≡ 8 → IsNotBuilt (S.left source.old) (S.left source.new) (K.held sink.old) (K.held sink.new) }
+    ensures not_built { result ≡ 8 → IsNotBuilt
+        (S.left source.old) (S.left source.new) (K.held sink.old) (K.held sink.new) }
     // Where no read failed, the input alone decides among 0, 7 and 8.
-    ensures decided { (input : List ℕ) → S.left source.old ≡ Some input → is_script (map string_bytes words.now) ≡ true
-        → (Rose (S.faults source.old) (S.faults source.new) → ⊥) → EndsIn (input_status input) result }
+    ensures decided { (input : List ℕ) → S.left source.old ≡ Some input
+        → is_script (map string_bytes words.now) ≡ true
+        → ¬ Rose (S.faults source.old) (S.faults source.new)
+        → EndsIn (input_status input) result }
     ensures numbers { IsStatus result }
     // What the sink holds, whatever the status is.
-    ensures answer { Answers (is_script (map string_bytes words.now)) (S.left source.old) (S.left source.new) (S.faults source.old) (S.faults source.new)
+    ensures answer { Answers (is_script (map string_bytes words.now))
+        (S.left source.old) (S.left source.new) (S.faults source.old) (S.faults source.new)
         (K.held sink.old) (K.held sink.new) (K.faults sink.old) (K.faults sink.new) result }
     // Over ends that can't fail no count rises.
-    ensures sure_source { S.cannot_fail source.old → Rose (S.faults source.old) (S.faults source.new) → ⊥ }
-    ensures sure_sink { K.cannot_fail sink.old → Rose (K.faults sink.old) (K.faults sink.new) → ⊥ }
+    ensures sure_source { S.cannot_fail source.old
+        → ¬ Rose (S.faults source.old) (S.faults source.new) }
+    ensures sure_sink { K.cannot_fail sink.old
+        → ¬ Rose (K.faults sink.old) (K.faults sink.new) }
 {
     conduct(alloc, words, source, sink)
 }
 
 fn conduct<S: Source, K: Sink>(alloc: Global, words: &[String], source: &mut S, sink: &mut K) -> u8
-    ensures answer { Answers (is_script (map string_bytes words.now)) (S.left source.old) (S.left source.new) (S.faults source.old) (S.faults source.new)
+    ensures answer { Answers (is_script (map string_bytes words.now))
+        (S.left source.old) (S.left source.new) (S.faults source.old) (S.faults source.new)
         (K.held sink.old) (K.held sink.new) (K.faults sink.old) (K.faults sink.new) result }
-    ensures steady_source { S.cannot_fail source.old → S.cannot_fail source.new × (S.faults source.new ≡ S.faults source.old) }
-    ensures steady_sink { K.cannot_fail sink.old → K.cannot_fail sink.new × (K.faults sink.new ≡ K.faults sink.old) }
+    ensures steady_source { IsSteady S.cannot_fail S.faults source.old source.new }
+    ensures steady_sink { IsSteady K.cannot_fail K.faults sink.old sink.new }
 {
     if !is_script(words) {
         return write_notice(alloc, Notice::Usage, sink);
@@ -106,8 +117,9 @@ fn is_script(words: &[String]) -> bool
 // Runs the script that a text is, or tells its first line that leaves the form.
 fn conduct_script<K: Sink>(alloc: Global, text: &[u8], sink: &mut K) -> u8
     ensures ends { ((result ≡ NO_MEMORY) × (K.held sink.new ≡ K.held sink.old))
-        ⊎ Ends (K.held sink.old) (K.held sink.new) (K.faults sink.old) (K.faults sink.new) (script_text text.now) (script_status text.now) result }
-    ensures steady { K.cannot_fail sink.old → K.cannot_fail sink.new × (K.faults sink.new ≡ K.faults sink.old) }
+        ⊎ Ends (K.held sink.old) (K.held sink.new) (K.faults sink.old) (K.faults sink.new)
+        (script_text text.now) (script_status text.now) result }
+    ensures steady { IsSteady K.cannot_fail K.faults sink.old sink.new }
 {
     match parse(alloc, text) {
         Ok(script) => {
@@ -122,8 +134,9 @@ fn conduct_script<K: Sink>(alloc: Global, text: &[u8], sink: &mut K) -> u8
 }
 
 fn write_notice<K: Sink>(alloc: Global, notice: Notice, sink: &mut K) -> u8
-    ensures ends { Ends (K.held sink.old) (K.held sink.new) (K.faults sink.old) (K.faults sink.new) (notice_text notice) (notice_status notice) result }
-    ensures steady { K.cannot_fail sink.old → K.cannot_fail sink.new × (K.faults sink.new ≡ K.faults sink.old) }
+    ensures ends { Ends (K.held sink.old) (K.held sink.new) (K.faults sink.old) (K.faults sink.new)
+        (notice_text notice) (notice_status notice) result }
+    ensures steady { IsSteady K.cannot_fail K.faults sink.old sink.new }
 {
     let mut text = Vec::new(alloc);
     if push_notice(&mut text, notice).is_err() {

@@ -3,6 +3,7 @@
 
 mod client;
 mod commands;
+pub mod laws;
 mod out_lines;
 mod reading;
 mod running;

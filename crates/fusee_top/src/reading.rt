@@ -1,4 +1,5 @@
 ghost use Rattle.std.specs.Prelude.{◌≡◌, ℕ, ◌≤◌};
+ghost use Rattle.outside.specs.Faults.{IsSteady};
 ghost use Rattle.fusee_top.specs.Input.{IsInput};
 
 use map_model::Bytes;
@@ -25,9 +26,9 @@ pub enum Input {
 
 /// Reads a source to its end, or until it has given more than [`LIMIT`] bytes.
 pub fn read_all<S: Source>(alloc: Global, source: &mut S) -> Input
-    ensures input { IsInput (S.left source.old) (S.left source.new) (S.faults source.old) (S.faults source.new) result }
+    ensures input { IsInput S.left S.faults source.old source.new result }
     ensures later { S.faults source.old ≤ S.faults source.new }
-    ensures steady { S.cannot_fail source.old → S.cannot_fail source.new × (S.faults source.new ≡ S.faults source.old) }
+    ensures steady { IsSteady S.cannot_fail S.faults source.old source.new }
 {
     let mut input = Vec::new(alloc);
     let mut chunk = [0u8; CHUNK];

@@ -49,7 +49,8 @@ fn make_call(
 ) -> Result<Entry, AllocError>
     requires plain { is_plain_call call.now ≡ true }
     requires room { length client.old + 2 ≤ 32 }
-    ensures entry { IfOk result (λ entry. entry ≡ entry_of number call.now (reply_in client.old call.now)) }
+    ensures entry { IfOk result (λ entry. entry
+        ≡ entry_of number call.now (reply_in client.old call.now)) }
     ensures records { OnOk result (client.new ≡ records_after client.old call.now) }
 {
     let reply = client.call(alloc, call)?;

@@ -110,7 +110,8 @@ fn read_calls(
     lines: &[&[u8]],
 ) -> Result<(), FormFault>
     requires { room + number < 2 ^ 32 }
-    ensures parsed { Gathers calls.new.items result (calls_after calls.old.items room number (map (λ line. line.now) lines.now)) }
+    ensures parsed { Gathers calls.new.items result
+        (calls_after calls.old.items room number (map (λ line. line.now) lines.now)) }
     ensures few { length calls.new.items ≤ length calls.old.items + room }
     ensures plain { ArePlain calls.old.items → ArePlain calls.new.items }
 {
@@ -267,7 +268,8 @@ fn are_digits(bytes: &[u8]) -> bool
 
 // What a byte parts, the last part included.
 fn parts(alloc: Global, bytes: &[u8], by: u8) -> Result<Vec<&[u8]>, AllocError>
-    ensures { IfOk result (λ parts. map (λ part. part.now) parts.items ≡ slice_split (λ byte. byte == by) bytes.now) }
+    ensures { IfOk result (λ parts. map (λ part. part.now) parts.items
+        ≡ slice_split (λ byte. byte == by) bytes.now) }
 {
     bytes.split(|byte| *byte == by).collect(alloc)
 }

@@ -1,5 +1,5 @@
-ghost use Rattle.std.specs.Prelude.{◌≡◌, ◌≤◌, None};
-ghost use Rattle.outside.specs.Faults.{Rose};
+ghost use Rattle.std.specs.Prelude.{◌≡◌, ◌⊎◌, IfOk, None};
+ghost use Rattle.fusee_top.specs.Offline.{input_status};
 
 use super::offline;
 use outside::{Got, MemorySink, MemorySource, Sink, Source, Took};
@@ -22,8 +22,8 @@ fn words_of(alloc: Global, texts: &[&str]) -> Result<Vec<String>, AllocError> {
     Ok(words)
 }
 
-// The status and the output of `script` over this input, one byte a read, where the reads and the
-// writes of these numbers fail.
+// Carries out `script` over this input, one byte a read, where the reads and the writes of these
+// numbers fail, and answers the status and the output.
 fn script(
     alloc: Global,
     input: &[u8],
@@ -38,13 +38,26 @@ fn script(
     Ok((status, output))
 }
 
+// The same where no call fails: but for want of memory, the input alone decides the status.
+fn script_without_faults(alloc: Global, input: &[u8]) -> Result<(u8, Vec<u8>), AllocError>
+    ensures { IfOk result (λ got. (got.0 ≡ input_status input.now) ⊎ (got.0 ≡ 6)) }
+{
+    let mut words = Vec::new(alloc);
+    words.push(String::from_str(alloc, "script")?)?;
+    let mut source = MemorySource::new(input.to_vec(alloc)?, 1, Vec::new(alloc));
+    let mut sink = MemorySink::new(alloc, Vec::new(alloc));
+    let status = offline(alloc, &words, &mut source, &mut sink);
+    let output = sink.bytes().to_vec(alloc)?;
+    Ok((status, output))
+}
+
 fn check(
     rt: &(impl Abort + AllocGlobal),
     input: &[u8],
     status: u8,
     output: &[u8],
 ) -> Result<(), AllocError> {
-    let got = script(rt.alloc(), input, &[], &[])?;
+    let got = script_without_faults(rt.alloc(), input)?;
     assert_eq!(rt; got.0, status);
     assert_eq!(rt; got.1.as_slice(), output);
     Ok(())

@@ -1,4 +1,5 @@
 ghost use Rattle.std.specs.Prelude.{◌≡◌, ℕ, ◌≤◌};
+ghost use Rattle.outside.specs.Faults.{IsSteady};
 ghost use Rattle.fusee_top.specs.declared.writing.Unwritten.TheVariants.{NoMemory};
 ghost use Rattle.fusee_top.specs.Text.{line_text, text_of};
 ghost use Rattle.fusee_top.specs.Written.{Writes};
@@ -26,9 +27,9 @@ impl From<AllocError> for Unwritten {
 
 /// Writes the line and its line feed. No write is handed bytes of two lines.
 pub fn write_line<K: Sink>(alloc: Global, line: &OutLine, sink: &mut K) -> Result<(), Unwritten>
-    ensures written { Writes (K.held sink.old) (K.held sink.new) (K.faults sink.old) (K.faults sink.new) result (line_text line.now) }
+    ensures written { Writes K.held K.faults sink.old sink.new result (line_text line.now) }
     ensures later { K.faults sink.old ≤ K.faults sink.new }
-    ensures steady { K.cannot_fail sink.old → K.cannot_fail sink.new × (K.faults sink.new ≡ K.faults sink.old) }
+    ensures steady { IsSteady K.cannot_fail K.faults sink.old sink.new }
 {
     let mut text = Vec::new(alloc);
     push_line(&mut text, line)?;
@@ -37,9 +38,9 @@ pub fn write_line<K: Sink>(alloc: Global, line: &OutLine, sink: &mut K) -> Resul
 
 /// Writes the lines one after the other.
 pub fn write_lines<K: Sink>(alloc: Global, lines: &[OutLine], sink: &mut K) -> Result<(), Unwritten>
-    ensures written { Writes (K.held sink.old) (K.held sink.new) (K.faults sink.old) (K.faults sink.new) result (text_of lines.now) }
+    ensures written { Writes K.held K.faults sink.old sink.new result (text_of lines.now) }
     ensures later { K.faults sink.old ≤ K.faults sink.new }
-    ensures steady { K.cannot_fail sink.old → K.cannot_fail sink.new × (K.faults sink.new ≡ K.faults sink.old) }
+    ensures steady { IsSteady K.cannot_fail K.faults sink.old sink.new }
 {
     for line in lines {
         if let Err(why) = write_line(alloc, line, sink) {
@@ -51,9 +52,9 @@ pub fn write_lines<K: Sink>(alloc: Global, lines: &[OutLine], sink: &mut K) -> R
 
 /// Writes all of the bytes, unless a write fails or takes nothing.
 pub fn write_all<K: Sink>(bytes: &[u8], sink: &mut K) -> Result<(), Unwritten>
-    ensures written { Writes (K.held sink.old) (K.held sink.new) (K.faults sink.old) (K.faults sink.new) result bytes.now }
+    ensures written { Writes K.held K.faults sink.old sink.new result bytes.now }
     ensures later { K.faults sink.old ≤ K.faults sink.new }
-    ensures steady { K.cannot_fail sink.old → K.cannot_fail sink.new × (K.faults sink.new ≡ K.faults sink.old) }
+    ensures steady { IsSteady K.cannot_fail K.faults sink.old sink.new }
 {
     let mut at = 0;
     while at < bytes.len() {

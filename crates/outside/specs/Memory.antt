@@ -1,5 +1,5 @@
 -- The ends in memory: what each call answers and leaves.
-use Rattle.std.specs.Prelude.{ℕ, ◌<◌, Bool, ◌==◌, nat_lt, ◌&&◌, if◌then◌else◌, List, length, drop, ◌++◌, min, All}
+use Rattle.std.specs.Prelude.{ℕ, ◌-◌, ◌^◌, ◌<◌, Bool, ◌==◌, nat_lt, ◌&&◌, if◌then◌else◌, List, length, drop, ◌++◌, min, All}
 use Rattle.std.specs.List.{list_any}
 use Rattle.outside.specs.Faults.{one_more}
 use Rattle.outside.specs.declared.sources.Got.{Got}
@@ -27,6 +27,13 @@ is_failing fails calls = list_any (λ n. n == calls) fails
 -- no call from this one on is one of those that fail
 abbrev pub IsPast : List ℕ → ℕ → Type 0
 IsPast fails calls = All (λ n. n < calls) fails
+
+-- so no later call can fail, and the count of faults can still rise
+abbrev pub SourceCannotFail : Supply → Type 0
+SourceCannotFail s = IsPast s.fails s.calls × (s.faults < 2 ^ 64 - 1)
+
+abbrev pub SinkCannotFail : Store → Type 0
+SinkCannotFail s = IsPast s.fails s.calls × (s.faults < 2 ^ 64 - 1)
 
 -- how many bytes the next read moves into so much room
 abbrev pub moved : Supply → ℕ → ℕ

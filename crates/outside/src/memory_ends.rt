@@ -1,6 +1,6 @@
 ghost use Rattle.std.specs.Prelude.{◌≡◌, ◌≢◌, ℕ, ◌≤◌, ◌<◌, ◌-◌, ◌^◌, ◌⊎◌, List, [], MatchBool, length, drop, vec_len, Some};
-ghost use Rattle.outside.specs.Faults.{Rose};
-ghost use Rattle.outside.specs.Memory.{IsPast, Store, Supply, after_read, after_write, answer_of, is_failing};
+ghost use Rattle.outside.specs.Faults.{IsSteady, Rose};
+ghost use Rattle.outside.specs.Memory.{SinkCannotFail, SourceCannotFail, Store, Supply, after_read, after_write, answer_of, is_failing};
 ghost use Rattle.outside.specs.Sink.{IsFault, IsWithinPiece, Takes};
 ghost use Rattle.outside.specs.Source.{IsWithinRoom, Reads};
 
@@ -22,7 +22,13 @@ pub struct MemorySource {
 impl Model for MemorySource {
     ghost Value = { Supply };
 
-    ghost view = { λ s. record { left = drop s.at s.bytes.items; piece = s.piece; fails = s.fails.items; calls = s.calls; faults = s.faults } };
+    ghost view = { λ s. record {
+        left = drop s.at s.bytes.items;
+        piece = s.piece;
+        fails = s.fails.items;
+        calls = s.calls;
+        faults = s.faults
+    } };
 
     ghost invariant = { λ s. (0 < s.piece) × (s.at ≤ vec_len s.bytes) };
 }
@@ -32,7 +38,13 @@ impl MemorySource {
     /// counted from 0, fails exactly where n is in `fails`.
     pub fn new(bytes: Vec<u8>, piece: usize, fails: Vec<u64>) -> MemorySource
         requires { 1 ≤ piece }
-        ensures { result ≡ record { left = bytes.items; piece = piece; fails = fails.items; calls = 0; faults = 0 } }
+        ensures { result ≡ record {
+            left = bytes.items;
+            piece = piece;
+            fails = fails.items;
+            calls = 0;
+            faults = 0
+        } }
     {
         MemorySource {
             bytes,
@@ -50,7 +62,7 @@ impl Source for MemorySource {
 
     ghost faults = { λ s. s.faults };
 
-    ghost cannot_fail = { λ s. IsPast s.fails s.calls × (s.faults < 2 ^ 64 - 1) };
+    ghost cannot_fail = { SourceCannotFail };
 
     ghost not_spent = { λ s steady. steady.1 };
 
@@ -59,8 +71,7 @@ impl Source for MemorySource {
         ensures bytes { Reads (Some self.old.left) (Some self.new.left) result into.new }
         ensures later { self.old.faults ≤ self.new.faults }
         ensures cause { result ≡ Got.Failed → Rose self.old.faults self.new.faults }
-        ensures steady { (IsPast self.old.fails self.old.calls × (self.old.faults < 2 ^ 64 - 1))
-            → (IsPast self.new.fails self.new.calls × (self.new.faults < 2 ^ 64 - 1)) × (self.new.faults ≡ self.old.faults) }
+        ensures steady { IsSteady SourceCannotFail (λ s. s.faults) self.old self.new }
         ensures answer { result ≡ answer_of self.old (length into.old) }
         ensures after { self.new ≡ after_read self.old (length into.old) }
     {
@@ -93,7 +104,12 @@ pub struct MemorySink {
 impl Model for MemorySink {
     ghost Value = { Store };
 
-    ghost view = { λ s. record { held = s.bytes.items; fails = s.fails.items; calls = s.calls; faults = s.faults } };
+    ghost view = { λ s. record {
+        held = s.bytes.items;
+        fails = s.fails.items;
+        calls = s.calls;
+        faults = s.faults
+    } };
 }
 
 impl MemorySink {
@@ -122,7 +138,7 @@ impl Sink for MemorySink {
 
     ghost faults = { λ s. s.faults };
 
-    ghost cannot_fail = { λ s. IsPast s.fails s.calls × (s.faults < 2 ^ 64 - 1) };
+    ghost cannot_fail = { SinkCannotFail };
 
     ghost not_spent = { λ s steady. steady.1 };
 
@@ -131,8 +147,7 @@ impl Sink for MemorySink {
         ensures bytes { Takes (Some self.old.held) (Some self.new.held) result bytes.now }
         ensures later { self.old.faults ≤ self.new.faults }
         ensures cause { IsFault result (length bytes.now) → Rose self.old.faults self.new.faults }
-        ensures steady { (IsPast self.old.fails self.old.calls × (self.old.faults < 2 ^ 64 - 1))
-            → (IsPast self.new.fails self.new.calls × (self.new.faults < 2 ^ 64 - 1)) × (self.new.faults ≡ self.old.faults) }
+        ensures steady { IsSteady SinkCannotFail (λ s. s.faults) self.old self.new }
         ensures answer { MatchBool (is_failing self.old.fails self.old.calls)
             (result ≡ Took.Failed)
             ((result ≡ Took.Took (length bytes.now)) ⊎ (result ≡ Took.NoMemory)) }

@@ -1,6 +1,6 @@
 ghost use Rattle.std.specs.Prelude.{◌≡◌, ℕ, ◌-◌, ◌^◌, ◌<◌, ◌≤◌, List, length};
 ghost use Rattle.std.specs.declared.option.Option.{Option};
-ghost use Rattle.outside.specs.Faults.{Rose};
+ghost use Rattle.outside.specs.Faults.{IsSteady, Rose};
 ghost use Rattle.outside.specs.Sink.{IsFault, IsWithinPiece, Takes};
 
 /// The answer of a write.
@@ -31,8 +31,9 @@ pub trait Sink {
         ensures count { IsWithinPiece result (length bytes.now) }
         ensures bytes { Takes (held self.old) (held self.new) result bytes.now }
         ensures later { faults self.old ≤ faults self.new }
-        ensures cause { IsFault result (length bytes.now) → Rose (faults self.old) (faults self.new) }
-        ensures steady { cannot_fail self.old → cannot_fail self.new × (faults self.new ≡ faults self.old) };
+        ensures cause { IsFault result (length bytes.now)
+            → Rose (faults self.old) (faults self.new) }
+        ensures steady { IsSteady cannot_fail faults self.old self.new };
 
     // so that a count which stays as it was did not rise
     ghost not_spent: { (end : Self) → cannot_fail end → faults end < 2 ^ 64 - 1 };

@@ -1,6 +1,6 @@
 ghost use Rattle.std.specs.Prelude.{◌≡◌, ℕ, ◌-◌, ◌^◌, ◌<◌, ◌≤◌, List, length};
 ghost use Rattle.std.specs.declared.option.Option.{Option};
-ghost use Rattle.outside.specs.Faults.{Rose};
+ghost use Rattle.outside.specs.Faults.{IsSteady, Rose};
 ghost use Rattle.outside.specs.Source.{IsWithinRoom, Reads};
 
 /// The answer of a read.
@@ -31,7 +31,7 @@ pub trait Source {
         ensures bytes { Reads (left self.old) (left self.new) result into.new }
         ensures later { faults self.old ≤ faults self.new }
         ensures cause { result ≡ Got.Failed → Rose (faults self.old) (faults self.new) }
-        ensures steady { cannot_fail self.old → cannot_fail self.new × (faults self.new ≡ faults self.old) };
+        ensures steady { IsSteady cannot_fail faults self.old self.new };
 
     // so that a count which stays as it was did not rise
     ghost not_spent: { (end : Self) → cannot_fail end → faults end < 2 ^ 64 - 1 };

@@ -1,5 +1,5 @@
 ghost use Rattle.std.specs.Prelude.{◌≡◌, ◌≢◌, ℕ, ◌≤◌, length};
-ghost use Rattle.outside.specs.Faults.{Rose};
+ghost use Rattle.outside.specs.Faults.{IsSteady, Rose};
 ghost use Rattle.outside.specs.Sink.{IsFault, IsWithinPiece, Takes};
 ghost use Rattle.outside.specs.Source.{IsWithinRoom, Reads};
 ghost use Rattle.outside.specs.Std.{Counted, faults_after_read, faults_after_write};
@@ -45,10 +45,11 @@ impl<R: Read> Source for StdSource<R> {
 
     fn read(&mut self, into: &mut [u8]) -> Got
         ensures count { IsWithinRoom result (length into.old) }
-        ensures bytes { Reads (R.remaining self.old.end) (R.remaining self.new.end) result into.new }
+        ensures bytes { Reads (R.remaining self.old.end) (R.remaining self.new.end)
+            result into.new }
         ensures later { self.old.faults ≤ self.new.faults }
         ensures cause { result ≡ Got.Failed → Rose self.old.faults self.new.faults }
-        ensures steady { ⊥ → ⊥ × (self.new.faults ≡ self.old.faults) }
+        ensures steady { IsSteady (λ s. ⊥) (λ s. s.faults) self.old self.new }
         ensures counted { self.new.faults ≡ faults_after_read self.old.faults result }
     {
         for _ in 0..TRIES_AGAIN + 1 {
@@ -108,8 +109,9 @@ impl<W: Write> Sink for StdSink<W> {
         ensures bytes { Takes (W.contents self.old.end) (W.contents self.new.end) result bytes.now }
         ensures later { self.old.faults ≤ self.new.faults }
         ensures cause { IsFault result (length bytes.now) → Rose self.old.faults self.new.faults }
-        ensures steady { ⊥ → ⊥ × (self.new.faults ≡ self.old.faults) }
-        ensures counted { self.new.faults ≡ faults_after_write self.old.faults result (length bytes.now) }
+        ensures steady { IsSteady (λ s. ⊥) (λ s. s.faults) self.old self.new }
+        ensures counted { self.new.faults
+            ≡ faults_after_write self.old.faults result (length bytes.now) }
         ensures memory { result ≢ Took.NoMemory }
     {
         let result = self.writer.write(bytes);

@@ -1,5 +1,6 @@
-use Rattle.std.proofs.Common.{◌≡◌, ◌≤◌, vec_len}
+use Rattle.std.proofs.Common.{◌≤◌, vec_len}
 use Rattle.std.specs.Io.KnownBytes.{Consumes}
+use Rattle.outside.specs.Faults.{IsSteady}
 use Rattle.fusee_top.specs.declared.reading.TheConstants.{LIMIT}
 use Rattle.fusee_top.proofs.reading.read_all.Given as goal
 
@@ -9,5 +10,5 @@ invariant-loop g l = record {
   room : vec_len l.input ≤ LIMIT;
   turns : l.counter ≤ vec_len l.input;
   later : g.S.Source.faults l.fn.source ≤ g.S.Source.faults l.source;
-  steady : g.S.Source.cannot_fail l.fn.source → g.S.Source.cannot_fail l.source × (g.S.Source.faults l.source ≡ g.S.Source.faults l.fn.source);
+  steady : IsSteady g.S.Source.cannot_fail g.S.Source.faults l.fn.source l.source;
 }

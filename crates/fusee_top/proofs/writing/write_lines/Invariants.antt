@@ -1,5 +1,6 @@
-use Rattle.std.proofs.Common.{◌≡◌, ◌≤◌, take}
+use Rattle.std.proofs.Common.{◌≤◌, take}
 use Rattle.std.specs.Io.KnownBytes.{Appends}
+use Rattle.outside.specs.Faults.{IsSteady}
 use Rattle.fusee_top.specs.Text.{text_of}
 use Rattle.fusee_top.proofs.writing.write_lines.Given as goal
 
@@ -7,5 +8,5 @@ abbrev pub invariant-loop-line : goal.invariant-loop-line
 invariant-loop-line g l = record {
   written : Appends (g.K.Sink.held l.fn.sink) (g.K.Sink.held l.sink) (text_of (take l.line-index l.lines));
   later : g.K.Sink.faults l.fn.sink ≤ g.K.Sink.faults l.sink;
-  steady : g.K.Sink.cannot_fail l.fn.sink → g.K.Sink.cannot_fail l.sink × (g.K.Sink.faults l.sink ≡ g.K.Sink.faults l.fn.sink);
+  steady : IsSteady g.K.Sink.cannot_fail g.K.Sink.faults l.fn.sink l.sink;
 }
