@@ -23,11 +23,11 @@ impl Model for MemorySource {
     ghost Value = { Supply };
 
     ghost view = { λ s. record {
-        left = drop s.at s.bytes.items;
-        piece = s.piece;
-        fails = s.fails.items;
-        calls = s.calls;
-        faults = s.faults
+      left = drop s.at s.bytes.items;
+      piece = s.piece;
+      fails = s.fails.items;
+      calls = s.calls;
+      faults = s.faults;
     } };
 
     ghost invariant = { λ s. (0 < s.piece) × (s.at ≤ vec_len s.bytes) };
@@ -39,11 +39,11 @@ impl MemorySource {
     pub fn new(bytes: Vec<u8>, piece: usize, fails: Vec<u64>) -> MemorySource
         requires { 1 ≤ piece }
         ensures { result ≡ record {
-            left = bytes.items;
-            piece = piece;
-            fails = fails.items;
-            calls = 0;
-            faults = 0
+          left = bytes.items;
+          piece = piece;
+          fails = fails.items;
+          calls = 0;
+          faults = 0;
         } }
     {
         MemorySource {
@@ -105,10 +105,10 @@ impl Model for MemorySink {
     ghost Value = { Store };
 
     ghost view = { λ s. record {
-        held = s.bytes.items;
-        fails = s.fails.items;
-        calls = s.calls;
-        faults = s.faults
+      held = s.bytes.items;
+      fails = s.fails.items;
+      calls = s.calls;
+      faults = s.faults;
     } };
 }
 
