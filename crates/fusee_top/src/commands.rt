@@ -28,13 +28,13 @@ const TOO_LARGE: u8 = 7;
 /// A line of the script is not of the form that is built so far.
 const NOT_BUILT: u8 = 8;
 
-// What is written in place of a run: one line.
+/// What is written in place of a run: one line.
 #[derive(Clone, Copy, Debug, PartialEq, Eq)]
 pub enum Notice {
     Usage,
     ReadFault,
     TooLarge,
-    // The first line that leaves the form.
+    /// The first line that leaves the form.
     NotBuilt(u32),
 }
 

@@ -56,7 +56,7 @@ impl<T: Drop> From<AllocFailed<T>> for FormFault {
 /// Reads a script.
 pub fn parse(alloc: Global, text: &[u8]) -> Result<Script, FormFault>
     ensures parsed { IsParsed result (script_of text.now) }
-    ensures plain { IfOk result IsSmall }
+    ensures small { IfOk result IsSmall }
 {
     let lines = parts(alloc, text, b'\n')?;
     read_script(alloc, &lines)
@@ -64,7 +64,7 @@ pub fn parse(alloc: Global, text: &[u8]) -> Result<Script, FormFault>
 
 fn read_script(alloc: Global, lines: &[&[u8]]) -> Result<Script, FormFault>
     ensures parsed { IsParsed result (script_of_lines (map (λ line. line.now) lines.now)) }
-    ensures plain { IfOk result IsSmall }
+    ensures small { IfOk result IsSmall }
 {
     let Some((shape, lines)) = lines.split_first() else {
         return Err(FormFault::Leaves(1));
@@ -80,7 +80,7 @@ fn read_script(alloc: Global, lines: &[&[u8]]) -> Result<Script, FormFault>
 
 fn read_registered(alloc: Global, most: u32, lines: &[&[u8]]) -> Result<Script, FormFault>
     ensures parsed { IsParsed result (script_after_shape most (map (λ line. line.now) lines.now)) }
-    ensures plain { IfOk result IsSmall }
+    ensures small { IfOk result IsSmall }
 {
     let mut calls = Vec::new(alloc);
     let Some((line, lines)) = lines.split_first() else {

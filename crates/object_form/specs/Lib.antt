@@ -1,0 +1,5 @@
+pub mod Class
+pub mod Block
+pub mod Meta
+pub mod Link
+pub mod Content

@@ -1,0 +1,57 @@
+ghost use Rattle.std.specs.Prelude.{◌≡◌, ◌≢◌, ◌↔◌, IsTrue, IfSome, IfNone};
+ghost use Rattle.object_form.specs.declared.links.Link.{Link};
+ghost use Rattle.object_form.specs.Link.{word_of_link, IsNext, IsLink};
+
+/// Which call an object was taken for, and the object that its client takes next.
+#[derive(Clone, Copy, Debug, PartialEq, Eq)]
+pub struct Link {
+    /// The client, 1 to 64.
+    pub client: u32,
+    /// The number of the client's call, 1 to 16,777,215.
+    pub call: u32,
+    /// The pointer to the client's next reserve, whose region is 1 to 63; 0 where there is none.
+    pub next: u32,
+}
+
+/// The word of a link: its client in bits 52 to 63, the number of the call in bits 28 to 51, and
+/// the pointer to the next reserve in bits 0 to 27.
+pub fn link_word(link: Link) -> u64
+    requires { IsLink link }
+    ensures { result ≡ word_of_link link }
+{
+    (u64::from(link.client) << 52) + (u64::from(link.call) << 28) + u64::from(link.next)
+}
+
+/// The link that a word says, where it says one. The word 0 says none.
+pub fn link_of(word: u64) -> Option<Link>
+    ensures found { IfSome result (λ link. IsLink link × (word_of_link link ≡ word)) }
+    ensures none { IfNone result ((link : Link) → IsLink link → word_of_link link ≢ word) }
+{
+    let link = Link {
+        client: (word >> 52) as u32,
+        call: ((word >> 28) % (1 << 24)) as u32,
+        next: (word % (1 << 28)) as u32,
+    };
+    if is_link(link) { Some(link) } else { None }
+}
+
+fn is_link(link: Link) -> bool
+    ensures { IsTrue result ↔ IsLink link }
+{
+    if !(1..=64).contains(&link.client) {
+        return false;
+    }
+    if !(1..1 << 24).contains(&link.call) {
+        return false;
+    }
+    is_next(link.next)
+}
+
+fn is_next(next: u32) -> bool
+    ensures { IsTrue result ↔ IsNext next }
+{
+    if next == 0 {
+        return true;
+    }
+    (1..=63).contains(&(next >> 20))
+}

@@ -1,0 +1,4 @@
+pub mod FnvLemmas
+pub mod ListLemmas
+pub mod SlotLemmas
+pub mod OrderLemmas
