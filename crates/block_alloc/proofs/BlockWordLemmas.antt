@@ -1,22 +1,9 @@
-use Rattle.std.proofs.Common.{◌≡◌, ℕ, zero, suc, ◌+◌, ◌-◌, ◌*◌, ◌/◌, ◌%◌, ◌^◌, ◌<◌, ◌≤◌, bit_or, ◌==◌, nat_lt, nat_le, Bool, true, false, if◌then◌else◌, Some, None, IfSome, subst, lit<, inl, inr, refl, sym, ◌∙◌, ap, ap₂, arith}
-use Rattle.std.proofs.lemmas.Nat.{or_shifted}
+use Rattle.std.proofs.Common.{◌≡◌, ℕ, zero, suc, ◌+◌, ◌-◌, ◌*◌, ◌/◌, ◌%◌, ◌^◌, ◌<◌, ◌≤◌, ◌==◌, nat_lt, nat_le, Bool, true, false, if◌then◌else◌, Some, None, IfSome, subst, lit<, inl, inr, refl, ap, ap₂, arith}
 use Rattle.std.proofs.lemmas.Bool.Decides.{nat_tests}
 use Rattle.block_alloc.specs.declared.TheConstants.{CLASSES}
 use Rattle.block_alloc.specs.declared.BlockWord.{BlockWord}
 use Rattle.block_alloc.specs.declared.BlockWord.TheVariants.{Unused, Owned, Released}
 use Rattle.block_alloc.specs.BlockWord.{IsClient, IsBlock, word_of, block_in, MayClaim, IsOwned}
-
--- the word of an owned block, put together by `|`, is the sum of its fields
-pub or_owned : (client class : ℕ) → client < 2 ^ 8 → class < 2 ^ 8
-    → bit_or (bit_or (1 * 2 ^ 56) (client * 2 ^ 8 % 2 ^ 64)) class ≡ 1 * 2 ^ 56 + client * 2 ^ 8 + class
-or_owned client class within within' =
-    let whole : client * 2 ^ 8 % 2 ^ 64 ≡ client * 2 ^ 8 = omega arith in
-    let together : 1 * 2 ^ 56 + client * 2 ^ 8 ≡ (2 ^ 48 + client) * 2 ^ 8 = omega arith in
-    ap (λ low. bit_or (bit_or (1 * 2 ^ 56) low) class) whole
-    ∙ ap (λ high. bit_or high class) (or_shifted 1 56 (client * 2 ^ 8) (omega arith))
-    ∙ ap (λ high. bit_or high class) together
-    ∙ or_shifted (2 ^ 48 + client) 8 class within'
-    ∙ ap (λ high. high + class) (sym together)
 
 -- two blocks with one word are the same
 pub word_of-injective : (a b : BlockWord) → IsBlock a → IsBlock b → word_of a ≡ word_of b → a ≡ b

@@ -32,17 +32,17 @@ pub enum BlockWord {
 }
 
 /// The word of a block: 0 where it is unused; otherwise 1 (owned) or 2 (released) in bits 56 to 63,
-/// the client of an owned block in bits 8 to 15, and the class in bits 0 to 7.
+/// the client of an owned block from bit 8 on, up to bit 15 for a client within its limits, and the
+/// class in bits 0 to 7.
 pub fn block_word(block: BlockWord) -> u64
-    requires { IsBlock block }
     ensures { result ≡ word_of block }
 {
     match block {
         BlockWord::Unused => 0,
         BlockWord::Owned { client, class } => {
-            (1 << 56) | (u64::from(client) << 8) | u64::from(class)
+            (1 << 56) + (u64::from(client) << 8) + u64::from(class)
         }
-        BlockWord::Released { class } => (2 << 56) | u64::from(class),
+        BlockWord::Released { class } => (2 << 56) + u64::from(class),
     }
 }
 
@@ -84,8 +84,6 @@ pub fn block_of(word: u64) -> Option<BlockWord>
 /// It may where the block is unused, is released with objects of that very class, or is the
 /// client's own already, for that class. Anything else is answered by `None`.
 pub fn claim(word: u64, client: u32, class: u8) -> Option<u64>
-    requires client { IsClient client }
-    requires class { class < CLASSES }
     ensures { SomeIff result
         (MayClaim word client class)
         (word_of (BlockWord.Owned client class)) }
@@ -107,7 +105,6 @@ pub fn claim(word: u64, client: u32, class: u8) -> Option<u64>
 ///
 /// `None` is the answer exactly where the client does not own the block.
 pub fn release(word: u64, client: u32) -> Option<u64>
-    requires { IsClient client }
     ensures owned { IfSome result (λ released.
         (class : ℕ) × IsOwned word client class × (released ≡ word_of (BlockWord.Released class))) }
     ensures not_owned { IfNone result ((class : ℕ) → ¬ IsOwned word client class) }

@@ -1,4 +1,5 @@
-use Rattle.std.proofs.Common.{◌≡◌, ℕ, zero, suc, ◌<◌, ◌≤◌, arith}
+use Rattle.std.proofs.Common.{◌≡◌, ℕ, zero, suc, ◌-◌, ◌%◌, ◌^◌, ◌<◌, ◌≤◌, arith}
+use Rattle.std.proofs.Math.Nat.{div-le_self}
 use Rattle.object_form.specs.Block.{block_of_unit, object_of_unit, IsInBlock, IsInObject}
 
 -- a unit lies in its block
@@ -44,3 +45,9 @@ object_of_unit-only unit (suc (suc (suc (suc (suc zero))))) block object small l
     (omega (arith, lies), omega (arith, lies))
 object_of_unit-only unit (suc (suc (suc (suc (suc (suc n)))))) block object small lies =
     absurd (omega arith)
+
+-- an object's number is below 64
+pub object_of_unit-lt : (unit class : ℕ) → object_of_unit unit class < 64
+object_of_unit-lt unit class =
+    let le = div-le_self ((unit - 16) % 64) (2 ^ class) in
+    omega (arith, le)

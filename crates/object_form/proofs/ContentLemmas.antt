@@ -1,4 +1,4 @@
-use Rattle.std.proofs.Common.{◌≡◌, ℕ, ◌+◌, ◌-◌, ◌*◌, ◌/◌, ◌%◌, ◌^◌, ◌<◌, ◌≤◌, inl, inr, List, [], ◌∷◌, ◌++◌, length, take, drop, get_or, replicate, refl, sym, ◌∙◌, ap, arith, length-append}
+use Rattle.std.proofs.Common.{◌≡◌, ℕ, ◌+◌, ◌-◌, ◌*◌, ◌/◌, ◌%◌, ◌^◌, ◌<◌, ◌≤◌, inl, inr, List, [], ◌∷◌, ◌++◌, length, take, drop, get_or, replicate, refl, sym, ◌∙◌, ap, ap₂, arith, length-append}
 use Rattle.std.proofs.lemmas.Bool.{cases_lt}
 use Rattle.std.proofs.lemmas.List.{ext_get_or, get_or-take, get_or-drop, get_or_append_left, get_or-append_right, get_or_past, get_or-replicate, length-replicate, length-take-le, take-append-le, take_rest, take_more_same}
 use Rattle.std.proofs.lemmas.List.Concat.{flat_map-append, get_or-flat_map}
@@ -102,7 +102,7 @@ unfolding word_from
 word_from-lt bytes i small =
     from_le_bytes-lt (drop (8 * i) bytes) (λ k. rw (get_or-drop (8 * i) bytes k 0) (small (8 * i + k)))
 
--- the words that bytes are put into spell them, whatever words come behind
+-- the words that bytes are put into spell them
 pub IsSpelled-padded_words : (bytes : List ℕ) → ((k : ℕ) → get_or bytes k 0 < 256)
     → IsSpelled (padded_words bytes) (length bytes) bytes
 IsSpelled-padded_words bytes small =
@@ -115,6 +115,7 @@ IsSpelled-padded_words bytes small =
     get_or-take (length bytes) (bytes_of_words (padded_words bytes)) i 0 within
     ∙ get_or-bytes_of_words-padded_words bytes i small within)
 
+-- whatever words come behind
 pub IsSpelled-padded_words-append : (bytes more : List ℕ) → ((k : ℕ) → get_or bytes k 0 < 256)
     → IsSpelled (padded_words bytes ++ more) (length bytes) bytes
 IsSpelled-padded_words-append bytes more small =
@@ -123,6 +124,14 @@ IsSpelled-padded_words-append bytes more small =
     ap (take (length bytes)) (bytes_of_words-append (padded_words bytes) more)
     ∙ take-append-le (length bytes) (bytes_of_words (padded_words bytes)) (bytes_of_words more) (omega (arith, size, words))
     ∙ IsSpelled-padded_words bytes small
+
+-- bytes of one length that are put into the same words are the same
+pub padded_words-inj : (a b : List ℕ) → ((k : ℕ) → get_or a k 0 < 256) → ((k : ℕ) → get_or b k 0 < 256)
+    → length a ≡ length b → padded_words a ≡ padded_words b → a ≡ b
+padded_words-inj a b small_a small_b lengths words =
+    sym (IsSpelled-padded_words a small_a)
+    ∙ ap₂ (λ (len : ℕ) (ws : List ℕ). take len (bytes_of_words ws)) lengths words
+    ∙ IsSpelled-padded_words b small_b
 
 -- bytes that are spelled are as many as was asked
 pub length-IsSpelled : (words : List ℕ) (len : ℕ) (bytes : List ℕ) → len ≤ 8 * length words

@@ -1,4 +1,4 @@
-ghost use Rattle.std.specs.Prelude.{◌≡◌, ◌≢◌, ◌↔◌, IsTrue, IfSome, IfNone};
+ghost use Rattle.std.specs.Prelude.{◌≡◌, ◌≢◌, ◌%◌, ◌^◌, ◌↔◌, IsTrue, IfSome, IfNone};
 ghost use Rattle.object_form.specs.declared.links.Link.{Link};
 ghost use Rattle.object_form.specs.Link.{word_of_link, IsNext, IsLink};
 
@@ -15,11 +15,15 @@ pub struct Link {
 
 /// The word of a link: its client in bits 52 to 63, the number of the call in bits 28 to 51, and
 /// the pointer to the next reserve in bits 0 to 27.
+///
+/// Of fields beyond their limits it is the sum modulo 2^64.
 pub fn link_word(link: Link) -> u64
-    requires { IsLink link }
-    ensures { result ≡ word_of_link link }
+    ensures word { result ≡ word_of_link link % 2 ^ 64 }
+    ensures within { IsLink link → result ≡ word_of_link link }
 {
-    (u64::from(link.client) << 52) + (u64::from(link.call) << 28) + u64::from(link.next)
+    let client = u64::from(link.client % (1 << 12)) << 52;
+    let call_and_next = (u64::from(link.call) << 28) + u64::from(link.next);
+    client.wrapping_add(call_and_next)
 }
 
 /// The link that a word says, where it says one. The word 0 says none.

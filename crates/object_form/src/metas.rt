@@ -27,7 +27,6 @@ pub struct Meta {
 /// tombstone, the length of its key in bits 16 to 31, and that of its value in bits 0 to 15. The
 /// other bits are 0.
 pub fn meta_word(meta: Meta) -> u64
-    requires { IsMeta meta }
     ensures { result ≡ word_of_meta meta }
 {
     (kind_code(meta.kind) << 32) + (u64::from(meta.key_len) << 16) + u64::from(meta.value_len)
