@@ -1,3 +1,4 @@
+pub mod ControlLemmas
 pub mod LayoutLemmas
 pub mod OpeningLemmas
 pub mod PlacedLemmas

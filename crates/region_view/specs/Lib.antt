@@ -1,5 +1,6 @@
 pub mod Control
 pub mod Epoch
+pub mod Layout
 pub mod Opening
 pub mod Placed
 pub mod Places

@@ -1,5 +1,5 @@
 ghost use Rattle.std.specs.Prelude.{◌≡◌, ◌≢◌, ◌^◌, ◌<◌, IfNone, IfSome};
-ghost use Rattle.region_view.specs.Epoch.{IsEpoch, word_of_epoch};
+ghost use Rattle.region_view.specs.Epoch.{IsEpoch, epoch_in, word_of_epoch};
 ghost use Rattle.region_view.specs.declared.epochs.Epoch.{Epoch};
 
 /// What the epoch word says.
@@ -22,9 +22,11 @@ pub fn epoch_word(epoch: Epoch) -> u64
 }
 
 /// What the word says; `None` exactly where a bit of 9 to 15 is set, so that no epoch has the word.
+#[tactic(auto, unfolding(crate::specs::Epoch::epoch_in))]
 pub fn epoch_of(word: u64) -> Option<Epoch>
     ensures found { IfSome result (λ epoch. IsEpoch epoch × (word_of_epoch epoch ≡ word)) }
     ensures none { IfNone result ((epoch : Epoch) → IsEpoch epoch → word_of_epoch epoch ≢ word) }
+    ensures value { result ≡ epoch_in word }
 {
     let middle = word / 256 % 256;
     if middle > 1 {
