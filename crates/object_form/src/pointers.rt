@@ -24,7 +24,6 @@ pub fn region_of(pointer: u32) -> u32
 
 /// The unit of a pointer, in its bits 0 to 19.
 pub fn unit_of(pointer: u32) -> u32
-    requires { pointer < 2 ^ 28 }
     ensures { result ≡ unit_of pointer }
 {
     pointer % (1 << 20)
@@ -32,8 +31,7 @@ pub fn unit_of(pointer: u32) -> u32
 
 /// The block that the pointer's unit lies in: block b has the units 16 + 64 b to 79 + 64 b.
 pub fn block_at(pointer: u32) -> u32
-    requires pointer { pointer < 2 ^ 28 }
-    requires unit { 16 ≤ unit_of pointer }
+    requires { 16 ≤ unit_of pointer }
     ensures { result ≡ block_of_unit (unit_of pointer) }
 {
     (unit_of(pointer) - 16) / 64
@@ -42,7 +40,6 @@ pub fn block_at(pointer: u32) -> u32
 /// The number of the object that the pointer's unit lies in, in a block of this class: object j of
 /// block b has the 2^class units from unit 16 + 64 b + j 2^class.
 pub fn object_at(pointer: u32, class: u8) -> u32
-    requires pointer { pointer < 2 ^ 28 }
     requires unit { 16 ≤ unit_of pointer }
     requires class { class < CLASSES }
     ensures { result ≡ object_of_unit (unit_of pointer) class }
