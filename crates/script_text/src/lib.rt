@@ -1,0 +1,13 @@
+//! The texts of scripts and of their output, as lines: what each line says, how it is read, and how
+//! it is written.
+#![tactic(auto)]
+
+mod byte_text;
+mod faults;
+mod out_lines;
+mod scripts;
+
+pub use byte_text::Text;
+pub use faults::{BadKind, ScriptFault};
+pub use out_lines::{NotYetText, OutLine, RefusalText, ReplyText};
+pub use scripts::{CallText, Line, Script, Shape};
