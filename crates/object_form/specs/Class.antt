@@ -1,7 +1,8 @@
 -- The sizes of objects, in words of eight bytes and in units of eight words.
-use Rattle.std.specs.Prelude.{◌≡◌, ℕ, ◌+◌, ◌*◌, ◌^◌, ◌<◌, ◌≤◌}
+use Rattle.std.specs.Prelude.{◌≡◌, ℕ, ◌+◌, ◌*◌, ◌^◌, ◌<◌, ◌≤◌, nat_le, unwrap_or, find}
 use Rattle.std.specs.Int.{div_ceil}
-use Rattle.object_form.specs.declared.classes.TheConstants.{LONGEST}
+use Rattle.std.specs.List.{range_with_len}
+use Rattle.object_form.specs.declared.classes.TheConstants.{CLASSES, LONGEST}
 use Rattle.object_form.specs.declared.classes.Length.{Length}
 use Rattle.object_form.specs.declared.classes.Length.TheVariants.{KeyLength, ValueLength}
 
@@ -20,6 +21,11 @@ units_of class = 2 ^ class
 -- the words of an object of a class
 abbrev pub room_of : ℕ → ℕ
 room_of class = 8 * units_of class
+
+-- the least class whose objects have room for a key and a value of these lengths; 0 where none has
+unfoldable pub class_in : ℕ → ℕ → ℕ
+class_in key_len value_len =
+    unwrap_or (find (λ class. nat_le (words_of key_len value_len) (room_of class)) (range_with_len 0 CLASSES)) 0
 
 -- a key may have this length
 abbrev pub IsKeyLength : ℕ → Type 0

@@ -1,5 +1,5 @@
 ghost use Rattle.std.specs.Prelude.{◌≡◌, ℕ, ◌<◌, ◌≤◌, ◌↔◌, IsOk, IfOk, IfErr};
-ghost use Rattle.object_form.specs.Class.{words_of, units_of, room_of, IsKeyLength, IsRefused};
+ghost use Rattle.object_form.specs.Class.{class_in, words_of, units_of, room_of, IsKeyLength, IsRefused};
 
 /// How many classes of objects there are. An object of class k has 2^k units, of 8 words each.
 pub const CLASSES: u8 = 6;
@@ -30,6 +30,8 @@ pub fn class_for(key_len: usize, value_len: usize) -> Result<u8, Length>
     // The class is one of the six, and its objects have room for the words.
     ensures class { IfOk result (λ class. class < CLASSES) }
     ensures holds { IfOk result (λ class. words_of key_len value_len ≤ room_of class) }
+
+    ensures value { IfOk result (λ class. class ≡ class_in key_len value_len) }
 
     // No smaller class has room for them.
     ensures least { IfOk result (λ class. (smaller : ℕ) → smaller < class

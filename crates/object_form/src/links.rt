@@ -1,6 +1,6 @@
-ghost use Rattle.std.specs.Prelude.{◌≡◌, ◌≢◌, ◌%◌, ◌^◌, ◌↔◌, IsTrue, IfSome, IfNone};
+ghost use Rattle.std.specs.Prelude.{◌≡◌, ◌≢◌, ◌%◌, ◌^◌, ◌<◌, IfSome, IfNone};
 ghost use Rattle.object_form.specs.declared.links.Link.{Link};
-ghost use Rattle.object_form.specs.Link.{word_of_link, IsNext, IsLink};
+ghost use Rattle.object_form.specs.Link.{word_of_link, is_link, is_next, link_in, IsLink};
 
 /// Which call an object was taken for, and the object that its client takes next.
 #[derive(Clone, Copy, Debug, PartialEq, Eq)]
@@ -27,9 +27,11 @@ pub fn link_word(link: Link) -> u64
 }
 
 /// The link that a word says, where it says one. The word 0 says none.
+#[tactic(auto, unfolding(crate::specs::Link::link_in))]
 pub fn link_of(word: u64) -> Option<Link>
     ensures found { IfSome result (λ link. IsLink link × (word_of_link link ≡ word)) }
     ensures none { IfNone result ((link : Link) → IsLink link → word_of_link link ≢ word) }
+    ensures value { result ≡ link_in word }
 {
     let link = Link {
         client: (word >> 52) as u32,
@@ -40,19 +42,17 @@ pub fn link_of(word: u64) -> Option<Link>
 }
 
 fn is_link(link: Link) -> bool
-    ensures { IsTrue result ↔ IsLink link }
+    requires { link.call < 2 ^ 24 }
+    ensures { result ≡ is_link link }
 {
-    if !(1..=64).contains(&link.client) {
-        return false;
-    }
-    if !(1..1 << 24).contains(&link.call) {
+    if !(1..=64).contains(&link.client) || link.call == 0 {
         return false;
     }
     is_next(link.next)
 }
 
 fn is_next(next: u32) -> bool
-    ensures { IsTrue result ↔ IsNext next }
+    ensures { result ≡ is_next next }
 {
     if next == 0 {
         return true;

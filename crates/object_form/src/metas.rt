@@ -1,6 +1,6 @@
-ghost use Rattle.std.specs.Prelude.{◌≡◌, ◌≢◌, ◌↔◌, IsTrue, IfSome, IfNone};
+ghost use Rattle.std.specs.Prelude.{◌≡◌, ◌≢◌, IfSome, IfNone};
 ghost use Rattle.object_form.specs.declared.metas.Meta.{Meta};
-ghost use Rattle.object_form.specs.Meta.{code_of, longest_of, word_of_meta, IsMeta};
+ghost use Rattle.object_form.specs.Meta.{code_of, is_meta, longest_of, meta_in, word_of_meta, IsMeta};
 
 use crate::classes::LONGEST;
 
@@ -33,9 +33,11 @@ pub fn meta_word(meta: Meta) -> u64
 }
 
 /// What a meta word says of its object, where it is one.
+#[tactic(auto, unfolding(crate::specs::Meta::meta_in))]
 pub fn meta_of(word: u64) -> Option<Meta>
     ensures found { IfSome result (λ meta. IsMeta meta × (word_of_meta meta ≡ word)) }
     ensures none { IfNone result ((meta : Meta) → IsMeta meta → word_of_meta meta ≢ word) }
+    ensures value { result ≡ meta_in word }
 {
     let kind = match word >> 32 {
         1 => Kind::Value,
@@ -51,7 +53,7 @@ pub fn meta_of(word: u64) -> Option<Meta>
 }
 
 fn is_meta(meta: Meta) -> bool
-    ensures { IsTrue result ↔ IsMeta meta }
+    ensures { result ≡ is_meta meta }
 {
     if !(1..=64).contains(&meta.key_len) {
         return false;
