@@ -1,0 +1,16 @@
+pub mod BitChange
+pub mod Choosing
+pub mod Client
+pub mod EpochRead
+pub mod KeySearch
+pub mod KeyTest
+pub mod ObjectNames
+pub mod Places
+pub mod Remembered
+pub mod Resolution
+pub mod SlotWrite
+pub mod Stage
+pub mod Stock
+pub mod Turn
+pub mod ValueRead
+pub mod WordsWrite
