@@ -1,8 +1,9 @@
 -- The setting or clearing of an object's bit on each replica, the primary last.
-use Rattle.std.specs.Prelude.{ℕ, ◌+◌, ◌-◌, ◌/◌, ◌%◌, ◌^◌, Bool, true, not, ◌==◌, nat_lt, if◌then◌else◌}
+use Rattle.std.specs.Prelude.{◌≡◌, ℕ, ◌+◌, ◌<◌, ◌-◌, ◌/◌, ◌%◌, ◌^◌, Bool, true, not, ◌==◌, nat_lt, if◌then◌else◌}
 use Rattle.machine.specs.declared.bit_change.Changed.{Changed}
 use Rattle.machine.specs.declared.bit_change.Changed.TheVariants.{Going, Whole, Refused}
-use Rattle.machine.specs.ObjectNames.{Object, bitmap_of, number_of}
+use Rattle.machine.specs.EpochRead.{IsView}
+use Rattle.machine.specs.ObjectNames.{IsObject, Object, bitmap_of, number_of}
 use Rattle.machine.specs.Places.{replica_count, written_place}
 use Rattle.machine.specs.Turn.{Turn}
 use Rattle.region_view.specs.Placed.{Viewed}
@@ -81,3 +82,10 @@ abbrev pub turn : BitChange → Answer → Turn BitChange Changed
 turn change (Word found) = turn_at change.phase change found
 turn change Done = goes change
 turn change Lost = tells change (Refused (place_of (next change)).node)
+
+-- what holds of each change of a bit under a view
+pub record IsBitChange (view : Viewed) (change : BitChange) : Type 0 where
+  pub held : change.view ≡ view
+  pub is_view : IsView change.view
+  pub object : IsObject change.view.shape change.object
+  pub replica : change.replica < replica_count change.view (bitmap_of change.object.pointer)

@@ -1,13 +1,14 @@
 -- The search for a key: the slots of its order are read one after the other, and the key of each object that has its
 -- fingerprint is tested. The order of a key's slots is that of RACE hashing (ATC 2021) in outline.
-use Rattle.std.specs.Prelude.{ℕ, ◌+◌, ◌==◌, nat_lt, if◌then◌else◌, List, length, slice_index}
+use Rattle.std.specs.Prelude.{◌≡◌, ℕ, ◌+◌, ◌<◌, ◌≤◌, ◌==◌, nat_lt, if◌then◌else◌, List, length, slice_index, Some}
 use Rattle.std.specs.Option.{option_map_or}
 use Rattle.machine.specs.declared.key_search.Found.{Found}
 use Rattle.machine.specs.declared.key_search.Found.TheVariants.{Going, Empty, At, Nowhere, Refused}
 use Rattle.machine.specs.declared.key_test.Tested.{Tested}
 use Rattle.machine.specs.declared.key_test.Tested.TheVariants as tested
+use Rattle.machine.specs.EpochRead.{IsView}
 use Rattle.machine.specs.KeyTest as test
-use Rattle.machine.specs.KeyTest.{KeyTest, key_test_of}
+use Rattle.machine.specs.KeyTest.{IsKeyTest, KeyTest, key_test_of}
 use Rattle.machine.specs.ObjectNames.{candidate_in}
 use Rattle.machine.specs.Places.{slot_primary}
 use Rattle.machine.specs.Turn.{Turn}
@@ -82,3 +83,18 @@ turn_at (AtKey word key_test) search answer =
 
 abbrev pub turn : KeySearch → Answer → Turn KeySearch Found
 turn search answer = turn_at search.phase search answer
+
+-- the object whose key is tested is the one that the slot's word names
+abbrev pub IsAt : Phase → Viewed → List ℕ → Type 0
+IsAt AtSlot view key = Unit {0}
+IsAt (AtKey word key_test) view key = IsKeyTest view key key_test × (candidate_in view.shape key word ≡ Some key_test.object)
+
+-- what holds of each search for a key under a view
+pub record IsKeySearch (view : Viewed) (key : List ℕ) (search : KeySearch) : Type 0 where
+  pub held : search.view ≡ view
+  pub is_view : IsView search.view
+  pub same : search.key ≡ key
+  pub some : 1 ≤ length search.key
+  pub order : search.order ≡ order_of search.key search.view.shape.groups
+  pub place : search.place < length search.order
+  pub phase : IsAt search.phase search.view search.key

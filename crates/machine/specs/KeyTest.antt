@@ -1,9 +1,10 @@
 -- A test of whether an object has a key: its meta word is read, and then its key, word by word.
-use Rattle.std.specs.Prelude.{ℕ, ◌+◌, Bool, ◌&&◌, ◌==◌, nat_le, if◌then◌else◌, List, length, Option, Some, None}
+use Rattle.std.specs.Prelude.{◌≡◌, ℕ, ◌+◌, ◌<◌, ◌≤◌, Bool, ◌&&◌, ◌==◌, nat_le, if◌then◌else◌, List, length, Option, Some, None}
 use Rattle.std.specs.Option.{option_and_then, option_map_or}
 use Rattle.machine.specs.declared.key_test.Tested.{Tested}
 use Rattle.machine.specs.declared.key_test.Tested.TheVariants.{Going, Same, Other, Refused}
-use Rattle.machine.specs.ObjectNames.{Object}
+use Rattle.machine.specs.EpochRead.{IsView}
+use Rattle.machine.specs.ObjectNames.{IsObject, Object}
 use Rattle.machine.specs.Places.{object_word, primary_place}
 use Rattle.machine.specs.Turn.{Turn}
 use Rattle.object_form.specs.declared.metas.Kind.{Kind}
@@ -73,3 +74,17 @@ abbrev pub turn : KeyTest → Answer → Turn KeyTest Tested
 turn test (Word found) = turn_at test.phase test found
 turn test Done = goes test
 turn test Lost = tells test (Refused (place_of (next test)).node)
+
+-- the word of the key is one of the key's words, and the object has room for the key and a value of the length
+abbrev pub IsAt : Phase → ℕ → ℕ → Type 0
+IsAt Length key_len class = Unit {0}
+IsAt (Part word kind value_len) key_len class = (word < words_for key_len) × (words_of key_len value_len ≤ room_of class)
+
+-- what holds of each test of a key under a view
+pub record IsKeyTest (view : Viewed) (key : List ℕ) (test : KeyTest) : Type 0 where
+  pub held : test.view ≡ view
+  pub is_view : IsView test.view
+  pub same : test.key ≡ key
+  pub some : 1 ≤ length test.key
+  pub object : IsObject test.view.shape test.object
+  pub phase : IsAt test.phase (length test.key) test.object.class

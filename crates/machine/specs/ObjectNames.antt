@@ -1,5 +1,5 @@
 -- Which words and pointers name an object of the pool.
-use Rattle.std.specs.Prelude.{ℕ, ◌+◌, ◌-◌, ◌*◌, ◌/◌, ◌%◌, ◌^◌, ◌<◌, Bool, ◌&&◌, ◌==◌, nat_lt, nat_le, if◌then◌else◌, List, find, Option, Some, None}
+use Rattle.std.specs.Prelude.{◌≡◌, ℕ, ◌+◌, ◌-◌, ◌*◌, ◌/◌, ◌%◌, ◌^◌, ◌<◌, Bool, true, ◌&&◌, ◌==◌, nat_lt, nat_le, if◌then◌else◌, List, find, Option, Some, None}
 use Rattle.std.specs.List.{range_with_len}
 use Rattle.std.specs.Option.{option_and_then}
 use Rattle.pointer_fields.specs.Pointer.{pointer_of, region_of, unit_of}
@@ -64,3 +64,8 @@ number_of pointer class = object_of_unit (unit_of pointer) class
 
 abbrev pub bitmap_of : ℕ → NodeWord
 bitmap_of pointer = Bitmap (region_of pointer) (block_of pointer)
+
+-- an object of the pool
+pub record IsObject (sizes : Sizes) (object : Object) : Type 0 where
+  pub class : object.class < CLASSES
+  pub named : names_object sizes object.class object.pointer ≡ true

@@ -1,14 +1,15 @@
 -- How an interrupted slot write is resolved: the slot is read, and where it has another word of the key, its versions are
 -- walked back to the one that the write was for.
-use Rattle.std.specs.Prelude.{ℕ, Bool, true, ◌==◌, nat_lt, if◌then◌else◌, List, Option, Some, None}
+use Rattle.std.specs.Prelude.{◌≡◌, ℕ, ◌*◌, ◌<◌, ◌≤◌, length, Bool, true, ◌==◌, nat_lt, if◌then◌else◌, List, Option, Some, None}
 use Rattle.std.specs.Option.{option_map_or}
 use Rattle.machine.specs.declared.key_test.Tested.{Tested}
 use Rattle.machine.specs.declared.key_test.Tested.TheVariants as tested
 use Rattle.machine.specs.declared.resolution.Resolved.{Resolved}
 use Rattle.machine.specs.declared.resolution.Resolved.TheVariants.{Going, Still, Won, Beaten, OtherKey, Refused}
+use Rattle.machine.specs.EpochRead.{IsView}
 use Rattle.machine.specs.KeyTest as test
-use Rattle.machine.specs.KeyTest.{KeyTest, key_test_of}
-use Rattle.machine.specs.ObjectNames.{Object, candidate_in, object_in}
+use Rattle.machine.specs.KeyTest.{IsKeyTest, KeyTest, key_test_of}
+use Rattle.machine.specs.ObjectNames.{IsObject, Object, candidate_in, object_in}
 use Rattle.machine.specs.Places.{object_word, primary_place, slot_primary}
 use Rattle.machine.specs.Turn.{Turn}
 use Rattle.region_view.specs.Placed.{Viewed}
@@ -106,3 +107,18 @@ turn_at phase resolution Lost = tells resolution (Refused (place_of (verb_at pha
 
 abbrev pub turn : Resolution → Answer → Turn Resolution Resolved
 turn resolution answer = turn_at resolution.phase resolution answer
+
+-- each object that is read is one of the pool
+abbrev pub IsAt : Phase → Viewed → List ℕ → Type 0
+IsAt AtSlot view key = Unit {0}
+IsAt (AtKey key_test) view key = IsKeyTest view key key_test
+IsAt (AtVersion object before) view key = IsObject view.shape object
+IsAt (AtExpected object version) view key = IsObject view.shape object
+
+-- what holds of each resolution under a view
+pub record IsResolution (view : Viewed) (resolution : Resolution) : Type 0 where
+  pub held : resolution.view ≡ view
+  pub is_view : IsView resolution.view
+  pub some : 1 ≤ length resolution.key
+  pub slot : resolution.slot < 24 * resolution.view.shape.groups
+  pub phase : IsAt resolution.phase resolution.view resolution.key

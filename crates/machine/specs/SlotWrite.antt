@@ -1,7 +1,8 @@
 -- A write of one slot on all its replicas, after the SNAPSHOT protocol of FUSEE (FAST 2023).
-use Rattle.std.specs.Prelude.{ℕ, ◌+◌, ◌==◌, if◌then◌else◌, List, [], ◌∷◌, ◌++◌, length, drop, slice_index}
+use Rattle.std.specs.Prelude.{◌≡◌, ℕ, ◌+◌, ◌*◌, ◌<◌, ◌≤◌, ◌==◌, if◌then◌else◌, List, [], ◌∷◌, ◌++◌, length, drop, slice_index}
 use Rattle.machine.specs.declared.slot_write.Wrote.{Wrote}
 use Rattle.machine.specs.declared.slot_write.Wrote.TheVariants.{Going, Won, Changed, Unchanged, Refused}
+use Rattle.machine.specs.EpochRead.{IsView}
 use Rattle.machine.specs.Places.{backup_count, slot_backup, slot_primary}
 use Rattle.machine.specs.Turn.{Turn}
 use Rattle.region_view.specs.Placed.{Viewed}
@@ -93,3 +94,18 @@ abbrev pub turn : SlotWrite → Answer → Turn SlotWrite Wrote
 turn write (Word found) = turn_at write.phase write found
 turn write Done = goes write
 turn write Lost = tells write (Refused (place_of (next write)).node)
+
+-- what holds of a phase, given how many words are listed and how many backups there are: the word is put on the next
+-- backup, or mended on one whose word is listed
+abbrev pub IsAt : Phase → ℕ → ℕ → Type 0
+IsAt Gather listed backups = listed < backups
+IsAt (Mend backup) listed backups = backup < listed
+IsAt phase listed backups = Unit {0}
+
+-- what holds of each slot write under a view
+pub record IsSlotWrite (view : Viewed) (write : SlotWrite) : Type 0 where
+  pub held : write.view ≡ view
+  pub is_view : IsView write.view
+  pub slot : write.slot < 24 * write.view.shape.groups
+  pub list : length write.list ≤ backup_count write.view write.slot
+  pub phase : IsAt write.phase (length write.list) (backup_count write.view write.slot)

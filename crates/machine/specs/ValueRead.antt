@@ -1,10 +1,12 @@
 -- The reading of a value, word by word.
-use Rattle.std.specs.Prelude.{ℕ, ◌+◌, ◌==◌, if◌then◌else◌, List, [], ◌∷◌, ◌++◌, length, take}
+use Rattle.std.specs.Prelude.{◌≡◌, ℕ, ◌+◌, ◌<◌, ◌≤◌, ◌==◌, if◌then◌else◌, List, [], ◌∷◌, ◌++◌, length, take}
 use Rattle.machine.specs.declared.value_read.Fetched.{Fetched}
 use Rattle.machine.specs.declared.value_read.Fetched.TheVariants.{Going, Whole, Refused}
+use Rattle.machine.specs.EpochRead.{IsView}
+use Rattle.machine.specs.ObjectNames.{IsObject}
 use Rattle.machine.specs.Places.{object_word, primary_place}
 use Rattle.machine.specs.Turn.{Turn}
-use Rattle.object_form.specs.Class.{words_for}
+use Rattle.object_form.specs.Class.{room_of, words_for, words_of}
 use Rattle.object_form.specs.Content.{bytes_of_words}
 use Rattle.region_view.specs.Placed.{Viewed}
 use Rattle.verb_words.specs.declared.verbs.Answer.{Answer}
@@ -43,3 +45,13 @@ turn read (Word found) =
     else record { state = with_next read found; told = Going }
 turn read Done = record { state = read; told = Going }
 turn read Lost = record { state = read; told = Refused (place_of (next read)).node }
+
+-- what holds of each reading of a value under a view: the pointer names an object with room for the key and the value, of
+-- which a word is still to be read
+pub record IsValueRead (view : Viewed) (read : ValueRead) : Type 0 where
+  pub held : read.view ≡ view
+  pub is_view : IsView read.view
+  pub class : ℕ
+  pub object : IsObject read.view.shape (record { pointer = read.pointer; class = class })
+  pub room : words_of read.key_len read.value_len ≤ room_of class
+  pub words : length read.words < words_for read.value_len

@@ -1,13 +1,16 @@
 -- The writing of some words of an object, each to every replica before the next: an object's content and its link, or
 -- what it is logged to replace.
-use Rattle.std.specs.Prelude.{ℕ, ◌+◌, ◌%◌, ◌^◌, nat_lt, if◌then◌else◌, List, [], ◌∷◌, ◌++◌, length, slice_index_or}
+use Rattle.std.specs.Prelude.{◌≡◌, ℕ, ◌+◌, ◌<◌, ◌%◌, ◌^◌, nat_lt, if◌then◌else◌, List, [], ◌∷◌, ◌++◌, length, slice_index_or}
 use Rattle.std.specs.List.{enumerate_from}
 use Rattle.machine.specs.declared.object_write.Written.{Written}
 use Rattle.machine.specs.declared.object_write.Written.TheVariants.{Going, Whole, Refused}
+use Rattle.machine.specs.EpochRead.{IsView}
+use Rattle.machine.specs.ObjectNames.{IsObject}
 use Rattle.machine.specs.Places.{object_word, replica_count, written_place}
 use Rattle.machine.specs.Turn.{Turn}
 use Rattle.object_form.specs.declared.links.Link.{Link}
 use Rattle.object_form.specs.declared.metas.Kind.{Kind}
+use Rattle.object_form.specs.Class.{room_of}
 use Rattle.object_form.specs.Content.{padded_words}
 use Rattle.object_form.specs.Link.{word_of_link}
 use Rattle.object_form.specs.Meta.{word_of_meta}
@@ -67,3 +70,13 @@ turn write Done =
     else tells write Whole
 turn write (Word found) = goes write
 turn write Lost = tells write (Refused (place_of (next write)).node)
+
+-- what holds of each writing of words under a view: the pointer names an object that has all of these words
+pub record IsWordsWrite (view : Viewed) (write : WordsWrite) : Type 0 where
+  pub held : write.view ≡ view
+  pub is_view : IsView write.view
+  pub class : ℕ
+  pub object : IsObject write.view.shape (record { pointer = write.pointer; class = class })
+  pub room : (i : ℕ) → i < length write.pieces → (slice_index_or write.pieces i (0, 0)).0 < room_of class
+  pub piece : write.piece < length write.pieces
+  pub replica : write.replica < replica_count write.view (object_word write.pointer 0)

@@ -1,0 +1,4 @@
+pub mod KeyTestLemmas
+pub mod ObjectNamesLemmas
+pub mod PlacesLemmas
+pub mod SlotWriteLemmas
