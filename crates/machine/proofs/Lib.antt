@@ -1,4 +1,10 @@
+pub mod BitChangeLemmas
+pub mod KeySearchLemmas
 pub mod KeyTestLemmas
 pub mod ObjectNamesLemmas
 pub mod PlacesLemmas
+pub mod ResolutionLemmas
 pub mod SlotWriteLemmas
+pub mod StockLemmas
+pub mod ValueReadLemmas
+pub mod WordsWriteLemmas

@@ -3,7 +3,9 @@ use Rattle.std.proofs.Common.{◌≡◌, ℕ, zero, suc, ◌+◌, ◌-◌, ◌*�
 use Rattle.std.specs.Prelude.{nat_le, nat_lt}
 use Rattle.std.specs.List.{range_with_len}
 use Rattle.std.specs.Option.{option_and_then}
+use Rattle.std.proofs.lemmas.Bool.{eq-eqb, le-leb, lt-ltb}
 use Rattle.std.proofs.lemmas.Bool.Decides.{nat_tests}
+use Rattle.std.specs.Cmp.Derive.{both_true}
 use Rattle.std.proofs.lemmas.Option.{option_and_then_some}
 use Rattle.machine.specs.ObjectNames.{IsObject, Object, bitmap_of, block_of, candidate_in, class_of_units, names_object, number_of, object_in, object_of_class, pointer_in}
 use Rattle.machine.specs.Places.{object_word}
@@ -35,6 +37,11 @@ names_object-says sizes class pointer named = record {
   last = grind (arith, nat_tests);
   whole = grind (arith, nat_tests);
 }
+
+pub names_object-if : (sizes : Sizes) (class pointer : ℕ) → IsNamed sizes class pointer → names_object sizes class pointer ≡ true
+unfolding names_object
+names_object-if sizes class pointer says =
+    both_true (both_true (both_true (both_true (lt-ltb _ _ says.below) (both_true (le-leb _ _ says.region.0) (le-leb _ _ says.region.1))) (le-leb _ _ says.first)) (lt-ltb _ _ says.last)) (eq-eqb _ _ says.whole)
 
 -- the object lies in the block whole
 units_within : (class unit blocks : ℕ) → class < CLASSES → 16 ≤ unit → unit < 16 + 64 * blocks → (unit - 16) % units_of class ≡ 0 → unit + units_of class ≤ 16 + 64 * blocks

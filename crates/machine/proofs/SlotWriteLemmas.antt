@@ -22,22 +22,22 @@ slot_write_of-is view slot expect fresh is below = record {
 }
 
 -- what is mended is listed
-mend_from-is : (fresh k listed backups : ℕ) (words : List ℕ) → k + length words ≤ listed → IsAt (mend_from fresh k words) listed backups
-mend_from-is fresh k listed backups [] within = tt
-mend_from-is fresh k listed backups (word ∷ words) within = by (word == fresh) refl (mend_from-is fresh (k + 1) listed backups words (omega arith))
-  where by : (t : Bool) → (word == fresh) ≡ t → IsAt (mend_from fresh (k + 1) words) listed backups → IsAt (mend_from fresh k (word ∷ words)) listed backups
+mend_from-is : (fresh k backups : ℕ) (list words : List ℕ) → k + length words ≤ length list → IsAt (mend_from fresh k words) fresh list backups
+mend_from-is fresh k backups list [] within = tt
+mend_from-is fresh k backups list (word ∷ words) within = by (word == fresh) refl (mend_from-is fresh (k + 1) backups list words (omega arith))
+  where by : (t : Bool) → (word == fresh) ≡ t → IsAt (mend_from fresh (k + 1) words) fresh list backups → IsAt (mend_from fresh k (word ∷ words)) fresh list backups
         by true is rest = rw is rest
         by false is rest = rw is (omega arith)
 
-on_verdict-is : (verdict : Verdict) (fresh backups : ℕ) (list : List ℕ) → IsAt (on_verdict verdict fresh list) (length list) backups
-on_verdict-is All fresh backups list = tt
-on_verdict-is Most fresh backups list = mend_from-is fresh 0 (length list) backups list (omega arith)
-on_verdict-is CheckLeast fresh backups list = tt
-on_verdict-is Lose fresh backups list = tt
+on_verdict-is : (verdict : Verdict) (fresh backups : ℕ) (list : List ℕ) → judged list fresh ≡ verdict → IsAt (on_verdict verdict fresh list) fresh list backups
+on_verdict-is All fresh backups list is = tt
+on_verdict-is Most fresh backups list is = mend_from-is fresh 0 backups list list (omega arith)
+on_verdict-is CheckLeast fresh backups list is = is
+on_verdict-is Lose fresh backups list is = is
 
 -- the same write at another phase
 at_phase : (view : Viewed) (write : SlotWrite) (phase : Phase) → IsSlotWrite view write
-    → IsAt phase (length write.list) (backup_count write.view write.slot) → IsSlotWrite view (record write { phase = phase })
+    → IsAt phase write.fresh write.list (backup_count write.view write.slot) → IsSlotWrite view (record write { phase = phase })
 at_phase view write phase is at = record { held = is.held; is_view = is.is_view; slot = is.slot; list = is.list; phase = at }
 
 -- one more word is listed
@@ -47,7 +47,7 @@ gathered-is view write list is gathers within = by (length list == backup_count 
   where by : (t : Bool) → (length list == backup_count write.view write.slot) ≡ t → IsSlotWrite view (gathered write list)
         by true full = rw full (record {
           held = is.held; is_view = is.is_view; slot = is.slot; list = within;
-          phase = on_verdict-is (judged list write.fresh) write.fresh (backup_count write.view write.slot) list;
+          phase = on_verdict-is (judged list write.fresh) write.fresh (backup_count write.view write.slot) list refl;
         })
         by false more = rw more (record {
           held = is.held; is_view = is.is_view; slot = is.slot; list = within;
@@ -56,17 +56,17 @@ gathered-is view write list is gathers within = by (length list == backup_count 
 
 turn_at-is : (view : Viewed) (write : SlotWrite) (phase : Phase) (found : ℕ) → write.phase ≡ phase → IsSlotWrite view write → IsSlotWrite view (turn_at phase write found).state
 turn_at-is view write Gather found at is =
-    let P : Phase → Type 0 = λ p. IsAt p (length write.list) (backup_count write.view write.slot) in
+    let P : Phase → Type 0 = λ p. IsAt p write.fresh write.list (backup_count write.view write.slot) in
     let room : length write.list < backup_count write.view write.slot = subst P at is.phase in
     gathered-is view write (write.list ++ listed write found ∷ []) is at (omega (arith, length-append write.list (listed write found ∷ [])))
 turn_at-is view write (Mend backup) found at is =
-    let P : Phase → Type 0 = λ p. IsAt p (length write.list) (backup_count write.view write.slot) in
+    let P : Phase → Type 0 = λ p. IsAt p write.fresh write.list (backup_count write.view write.slot) in
     let room : backup < length write.list = subst P at is.phase in
-    at_phase view write _ is (mend_from-is write.fresh (backup + 1) (length write.list) (backup_count write.view write.slot) (drop (backup + 1) write.list)
+    at_phase view write _ is (mend_from-is write.fresh (backup + 1) (backup_count write.view write.slot) write.list (drop (backup + 1) write.list)
         (omega (arith, length-drop (backup + 1) write.list)))
 turn_at-is view write Check found at is = by (found == write.expect) refl
   where by : (t : Bool) → (found == write.expect) ≡ t → IsSlotWrite view (turn_at Check write found).state
-        by true same = rw same (at_phase view write _ is (mend_from-is write.fresh 0 (length write.list) (backup_count write.view write.slot) write.list (omega arith)))
+        by true same = rw same (at_phase view write _ is (mend_from-is write.fresh 0 (backup_count write.view write.slot) write.list write.list (omega arith)))
         by false other = rw other is
 turn_at-is view write Final found at is = is
 turn_at-is view write Wait found at is = by (found == write.expect) refl
@@ -82,10 +82,10 @@ turn-is view write Lost is = is
 
 verb_at-inside : (view : Viewed) (write : SlotWrite) (phase : Phase) → write.phase ≡ phase → IsSlotWrite view write → IsInPool write.view.shape (place_of (verb_at phase write))
 verb_at-inside view write Gather at is =
-    let P : Phase → Type 0 = λ p. IsAt p (length write.list) (backup_count write.view write.slot) in
+    let P : Phase → Type 0 = λ p. IsAt p write.fresh write.list (backup_count write.view write.slot) in
     slot_backup-inside write.view write.slot (length write.list) is.is_view is.slot (subst P at is.phase)
 verb_at-inside view write (Mend backup) at is =
-    let P : Phase → Type 0 = λ p. IsAt p (length write.list) (backup_count write.view write.slot) in
+    let P : Phase → Type 0 = λ p. IsAt p write.fresh write.list (backup_count write.view write.slot) in
     let room : backup < length write.list = subst P at is.phase in
     slot_backup-inside write.view write.slot backup is.is_view is.slot (omega (arith, is.list))
 verb_at-inside view write Check at is = slot_primary-inside write.view write.slot is.is_view is.slot

@@ -1,15 +1,20 @@
 -- The choosing of an object of a class, and with it the granting of blocks by the clients themselves.
-use Rattle.std.specs.Prelude.{ℕ, ◌+◌, ◌*◌, ◌/◌, ◌%◌, Bool, true, false, not, ◌&&◌, ◌==◌, nat_lt, nat_le, if◌then◌else◌, List, [], ◌∷◌, ◌++◌, length, slice_index_or, slice_set, Option, Some, None, unwrap_or}
+use Rattle.std.specs.Prelude.{◌≡◌, ℕ, ◌<◌, ◌≤◌, ◌+◌, ◌*◌, ◌/◌, ◌%◌, Bool, true, false, not, ◌&&◌, ◌==◌, nat_lt, nat_le, if◌then◌else◌, List, [], ◌∷◌, ◌++◌, length, slice_index_or, slice_set, Option, Some, None, unwrap_or}
 use Rattle.std.specs.Option.{option_map_or}
 use Rattle.block_alloc.specs.declared.BlockWord.{BlockWord}
 use Rattle.block_alloc.specs.declared.BlockWord.TheVariants.{Unused, Owned, Released}
 use Rattle.block_alloc.specs.BlockWord.{block_in, word_of}
 use Rattle.machine.specs.declared.choosing.Took.{Took}
 use Rattle.machine.specs.declared.choosing.Took.TheVariants.{Going, Have, NoSpace, Refused}
+use Rattle.machine.specs.EpochRead.{IsView}
+use Rattle.machine.specs.ObjectNames.{names_object}
 use Rattle.machine.specs.Places.{control, primary_place, replica_count, written_place}
-use Rattle.machine.specs.Stock.{ClassStock, OwnBlock, Phase, Rest, AskFirst, Scan, Ask, ReadBlock, Claim, Spread, ReadBitmap, WriteHead, Stock, any_waits, class_stock, first_free, is_own, no_stock, object_bits, ripened, scanned_block, view_of, with_class_stock, with_reserve}
+use Rattle.machine.specs.Stock.{ClassStock, OwnBlock, Phase, Rest, AskFirst, Scan, Ask, ReadBlock, Claim, Spread, ReadBitmap, WriteHead, IsStock, Stock, any_waits, class_stock, first_free, is_own, no_stock, object_bits, ripened, scanned_block, view_of, with_class_stock, with_reserve}
 use Rattle.machine.specs.Turn.{Turn}
 use Rattle.region_view.specs.Control.{EpochWord, Begin, Head}
+use Rattle.object_form.specs.declared.classes.TheConstants.{CLASSES}
+use Rattle.region_view.specs.Placed.{Viewed}
+use Rattle.region_view.specs.Sizes.{Sizes}
 use Rattle.region_view.specs.Layout.{NodeWord, BlockWord as block_word_of, Bitmap}
 use Rattle.reuse_epoch.specs.Awaited.{Awaited, begin_of, client_of, noted, still_awaited}
 use Rattle.std.specs.Prelude.{bit_and}
@@ -196,3 +201,34 @@ turn stock answer = turn_at stock.phase stock answer
 abbrev pub taken : Stock → ℕ → ℕ → Stock
 taken stock class next =
     record stock { classes = slice_set stock.classes class (with_reserve class (slice_index_or stock.classes class no_stock) next) }
+
+-- what each phase of a choosing needs
+abbrev pub IsAt : Phase → Stock → Type 0
+IsAt AskFirst stock = 0 < length (class_stock stock).awaited
+IsAt (Scan own) stock = own < length (class_stock stock).own
+IsAt (Ask client) stock = (1 ≤ client) × (client ≤ stock.shape.clients)
+IsAt ReadBlock stock = stock.position < stock.shape.regions * stock.shape.blocks
+IsAt (Claim word) stock = stock.position < stock.shape.regions * stock.shape.blocks
+IsAt (Spread unused backup) stock =
+    (stock.position < stock.shape.regions * stock.shape.blocks)
+    × (backup + 1 < replica_count (view_of stock) (word_at_block stock))
+IsAt ReadBitmap stock = stock.position < stock.shape.regions * stock.shape.blocks
+IsAt phase stock = Unit {0}
+
+-- what holds of the stock of a client that chooses an object of a class under a view
+pub record IsReady (view : Viewed) (client class : ℕ) (stock : Stock) : Type 0 where
+  pub is_stock : IsStock view.shape client stock
+  pub is_view : IsView view
+  pub number : (1 ≤ client) × (client ≤ view.shape.clients)
+  pub held : stock.mask ≡ view.mask
+  pub same : stock.class ≡ class
+  pub below : class < CLASSES
+
+pub record IsChoosing (view : Viewed) (client class : ℕ) (stock : Stock) : Type 0 where
+  pub ready : IsReady view client class stock
+  pub phase : IsAt stock.phase stock
+
+-- what holds of what a choosing tells: the objects are objects of the class
+abbrev pub IsTaken : Sizes → ℕ → Took → Type 0
+IsTaken sizes class (Have object next) = (names_object sizes class object ≡ true) × (names_object sizes class next ≡ true)
+IsTaken sizes class told = Unit {0}

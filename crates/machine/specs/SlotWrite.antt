@@ -95,12 +95,14 @@ turn write (Word found) = turn_at write.phase write found
 turn write Done = goes write
 turn write Lost = tells write (Refused (place_of (next write)).node)
 
--- what holds of a phase, given how many words are listed and how many backups there are: the word is put on the next
--- backup, or mended on one whose word is listed
-abbrev pub IsAt : Phase → ℕ → ℕ → Type 0
-IsAt Gather listed backups = listed < backups
-IsAt (Mend backup) listed backups = backup < listed
-IsAt phase listed backups = Unit {0}
+-- what holds of a phase, given the write's word, what is listed and how many backups there are: the word is put on the
+-- next backup, or mended on one whose word is listed; it is the least of several words, or it has lost
+abbrev pub IsAt : Phase → ℕ → List ℕ → ℕ → Type 0
+IsAt Gather fresh list backups = length list < backups
+IsAt (Mend backup) fresh list backups = backup < length list
+IsAt Check fresh list backups = judged list fresh ≡ CheckLeast
+IsAt Final fresh list backups = Unit {0}
+IsAt Wait fresh list backups = judged list fresh ≡ Lose
 
 -- what holds of each slot write under a view
 pub record IsSlotWrite (view : Viewed) (write : SlotWrite) : Type 0 where
@@ -108,4 +110,4 @@ pub record IsSlotWrite (view : Viewed) (write : SlotWrite) : Type 0 where
   pub is_view : IsView write.view
   pub slot : write.slot < 24 * write.view.shape.groups
   pub list : length write.list ≤ backup_count write.view write.slot
-  pub phase : IsAt write.phase (length write.list) (backup_count write.view write.slot)
+  pub phase : IsAt write.phase write.fresh write.list (backup_count write.view write.slot)

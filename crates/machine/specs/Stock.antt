@@ -1,10 +1,10 @@
 -- What a client has of each class: the blocks that it owns, with the bits of their objects that it may take at once and
 -- of those that wait, the clients that these wait for, and the reserve, which is the object that its next call writes.
-use Rattle.std.specs.Prelude.{ℕ, ◌+◌, ◌-◌, ◌*◌, ◌/◌, ◌%◌, ◌^◌, Bool, false, not, ◌&&◌, ◌==◌, if◌then◌else◌, List, [], ◌∷◌, ◌++◌, map, replicate, find, option_map, slice_index_or, slice_set, Option, Some, None, bit_and, bit_or}
+use Rattle.std.specs.Prelude.{◌≡◌, ℕ, ◌<◌, ◌≤◌, true, length, All, ◌+◌, ◌-◌, ◌*◌, ◌/◌, ◌%◌, ◌^◌, Bool, false, not, ◌&&◌, ◌==◌, if◌then◌else◌, List, [], ◌∷◌, ◌++◌, map, replicate, find, option_map, slice_index_or, slice_set, Option, Some, None, bit_and, bit_or}
 use Rattle.std.specs.Int.{trailing_zeros, w64}
 use Rattle.std.specs.List.{list_any}
 use Rattle.std.specs.Option.{option_map_or}
-use Rattle.machine.specs.ObjectNames.{block_of, number_of, pointer_to}
+use Rattle.machine.specs.ObjectNames.{block_of, names_object, number_of, pointer_to}
 use Rattle.object_form.specs.Class.{units_of}
 use Rattle.object_form.specs.declared.classes.TheConstants.{CLASSES}
 use Rattle.pointer_fields.specs.Pointer.{region_of}
@@ -134,3 +134,26 @@ is_block region block own = (own.region == region) && (own.block == block)
 -- whether the client has gained the block, for whatever class
 abbrev pub is_own : Stock → ℕ → ℕ → Bool
 is_own stock region block = list_any (λ of_class. list_any (is_block region block) of_class.own) stock.classes
+
+-- what holds of an own block of a class: it is a block of the pool, and its bits are those of its objects
+pub record IsOwn (sizes : Sizes) (class : ℕ) (own : OwnBlock) : Type 0 where
+  pub region : (1 ≤ own.region) × (own.region ≤ sizes.regions)
+  pub block : own.block < sizes.blocks
+  pub ripe : own.ripe < 2 ^ (64 / units_of class)
+  pub waiting : own.waiting < 2 ^ (64 / units_of class)
+
+abbrev pub IsAwaitedIn : Sizes → Awaited → Type 0
+IsAwaitedIn sizes one = (1 ≤ one.0) × (one.0 ≤ sizes.clients)
+
+-- what holds of the stock of a class: the reserve names an object of it, and who is awaited is a client of the pool
+pub record IsClassStock (sizes : Sizes) (class : ℕ) (of_class : ClassStock) : Type 0 where
+  pub own : All (IsOwn sizes class) of_class.own
+  pub reserve : (pointer : ℕ) → of_class.reserve ≡ Some pointer → names_object sizes class pointer ≡ true
+  pub awaited : All (IsAwaitedIn sizes) of_class.awaited
+
+-- what holds of each client's stock
+pub record IsStock (sizes : Sizes) (client : ℕ) (stock : Stock) : Type 0 where
+  pub owner : stock.client ≡ client
+  pub shape : stock.shape ≡ sizes
+  pub whole : length stock.classes ≡ CLASSES
+  pub classes : (class : ℕ) → class < CLASSES → IsClassStock sizes class (slice_index_or stock.classes class no_stock)
