@@ -41,7 +41,7 @@ module _ (slot : Slot) (new : ℕ) (sound : IsSoundSlot slot) (everywhere : IsEv
         | inr few ↦ omega (arith, few, fewer, sound.long)
       ]
 
-  IsSoundLate-decided : (phase : Phase) (mine : ℕ) (list : List ℕ) → mine ≢ new → IsSoundNow phase slot mine list
+  pub IsSoundLate-decided : (phase : Phase) (mine : ℕ) (list : List ℕ) → mine ≢ new → IsSoundNow phase slot mine list
       → IsSoundLate phase (decided slot new) list × HasFewWords slot mine list
   IsSoundLate-decided Gathering mine list other now = (now.0, few_listed mine list other now.0 now.1)
   IsSoundLate-decided (Mending place) mine list other now = absurd (other (sym now.1.wins ∙ wins))

@@ -6,3 +6,6 @@ pub mod GatheredLemmas
 pub mod HeldLemmas
 pub mod SwappedLemmas
 pub mod DecidedLemmas
+pub mod StepLemmas
+pub mod EventLemmas
+pub mod RoundLemmas

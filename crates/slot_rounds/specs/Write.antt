@@ -87,21 +87,23 @@ abbrev pub gathered : ℕ → ℕ → List ℕ → Phase
 gathered backups fresh list =
     if nat_lt (length list) backups then Gathering else on_verdict (verdict_of list fresh) fresh list
 
--- the write once a swap of a backup has found this word: where it is the expected one, the backup has
--- the write's own word now
-abbrev pub listed : ℕ → Write → ℕ → Write
-listed backups write found =
-    let list = write.list ++ (if found == write.expected then write.fresh else found) ∷ [] in
+-- the write once it knows this word of the next backup, of so many
+abbrev pub with_listed : ℕ → Write → ℕ → Write
+with_listed backups write word =
     record {
       expected = write.expected;
       fresh = write.fresh;
-      list = list;
-      phase = gathered backups write.fresh list;
+      list = write.list ++ word ∷ [];
+      phase = gathered backups write.fresh (write.list ++ word ∷ []);
     }
+
+-- the word that a backup has after a swap that found this one
+abbrev pub word_after : Write → ℕ → ℕ
+word_after write found = if found == write.expected then write.fresh else found
 
 -- what becomes of a write, of a slot with so many backups, whose verb has found this word
 abbrev pub after_at : Phase → ℕ → Write → ℕ → Writer
-after_at Gathering backups write found = Writing (listed backups write found)
+after_at Gathering backups write found = Writing (with_listed backups write (word_after write found))
 after_at (Mending place) backups write found =
     Writing (with_phase write (mend_from write.fresh (place + 1) (drop (place + 1) write.list)))
 after_at Checking backups write found =
