@@ -1,14 +1,14 @@
 -- What a final swap leaves sound: it ends the round, and the other writes of it will not win.
-use Rattle.std.proofs.Common.{◌≡◌, ◌≢◌, ℕ, ◌*◌, ◌<◌, ◌≤◌, List, [], length, slice_index, replicate, refl, sym, ◌∙◌, subst, arith, inl, inr}
+use Rattle.std.proofs.Common.{◌≡◌, ◌≢◌, ℕ, ◌*◌, ◌<◌, List, [], length, sym, ◌∙◌, subst, arith, inl, inr}
 use Rattle.std.proofs.lemmas.Bool.{cases_lt}
 use Rattle.std.proofs.lemmas.List.{length-replicate}
 use Rattle.snapshot_rules.specs.Winner.{times, winner}
 use Rattle.snapshot_rules.proofs.WinnerLemmas.{winner-majority}
 use Rattle.slot_rounds.specs.Slot.{Slot, decided}
-use Rattle.slot_rounds.specs.Write.{Phase, Gathering, Mending, Checking, Deciding, Waiting, Left, Write}
+use Rattle.slot_rounds.specs.Write.{Phase, Gathering, Mending, Checking, Deciding, Waiting, Left}
 use Rattle.slot_rounds.specs.Claims.{IsEverywhere}
 use Rattle.slot_rounds.proofs.ListLemmas.{slice_index-replicate, times-le}
-use Rattle.slot_rounds.proofs.Soundness.{IsSoundSlot, AllListed, IsMendedTo, HasFewWords, IsSoundNow, IsSoundLate, IsSoundWrite}
+use Rattle.slot_rounds.proofs.Soundness.{IsSoundSlot, AllListed, HasFewWords, IsSoundNow, IsSoundLate}
 
 -- a write that gives up its list has no own words in it
 pub HasFewWords-nil : (slot : Slot) (fresh : ℕ) (list : List ℕ) → list ≡ [] → HasFewWords slot fresh list
@@ -16,7 +16,6 @@ HasFewWords-nil slot fresh list is = subst (HasFewWords slot fresh) (sym is) (om
 
 module _ (slot : Slot) (new : ℕ) (sound : IsSoundSlot slot) (everywhere : IsEverywhere slot new)
     (wins : winner slot.firsts ≡ new) where
-
   pub IsSoundSlot-decided : IsSoundSlot (decided slot new)
   IsSoundSlot-decided =
       record {
@@ -32,10 +31,10 @@ module _ (slot : Slot) (new : ℕ) (sound : IsSoundSlot slot) (everywhere : IsEv
       → HasFewWords slot mine list
   few_listed mine list other short all =
       let fewer = times-le mine list slot.firsts (omega (arith, short, sound.long)) (λ place within is.
-            elim (all place within).known [
-              | inl first ↦ sym first ∙ is
-              | inr won ↦ absurd (other (sym is ∙ (won.1 ∙ wins)))
-            ]) in
+      elim (all place within).known [
+        | inl first ↦ sym first ∙ is
+        | inr won ↦ absurd (other (sym is ∙ (won.1 ∙ wins)))
+      ]) in
       elim (cases_lt (length slot.firsts) (2 * times mine slot.firsts)) [
         | inl most ↦ absurd (other (sym (winner-majority mine slot.firsts most) ∙ wins))
         | inr few ↦ omega (arith, few, fewer, sound.long)

@@ -1,15 +1,15 @@
 -- A state stays sound where a write begins, is broken off or given up, and where words are copied and
 -- installed.
-use Rattle.std.proofs.Common.{◌≡◌, ◌≢◌, ℕ, ◌<◌, ◌≤◌, ◌==◌, true, false, List, [], length, slice_index, slice_set, replicate, refl, sym, ◌∙◌, ap, subst, arith, inl, inr, length-set}
+use Rattle.std.proofs.Common.{◌≡◌, ◌≢◌, ℕ, ◌<◌, ◌==◌, [], length, slice_index, refl, sym, ◌∙◌, subst, arith, inl, inr, length-set}
 use Rattle.std.proofs.lemmas.Bool.{cases_eq, cases_Bool, eqb-false}
 use Rattle.std.proofs.lemmas.List.{length-replicate}
 use Rattle.slot_rounds.specs.Slot.{Slot, settled, copied}
-use Rattle.slot_rounds.specs.Write.{Phase, Left, Write, Writer, Idle, Writing, begun, left}
-use Rattle.slot_rounds.specs.Run.{State, Begin, Copy, Install, Quit, put, opening, broken_off, without, happens}
-use Rattle.slot_rounds.specs.Allowed.{IsHeld, AllLeft, IsFresh, IsNowhereFirst, MayHappen}
+use Rattle.slot_rounds.specs.Write.{Left, Write, Writer, Idle, Writing, begun, left}
+use Rattle.slot_rounds.specs.Run.{State, Begin, Copy, Install, Quit, opening, broken_off, without, happens}
+use Rattle.slot_rounds.specs.Allowed.{IsFresh, MayHappen}
 use Rattle.slot_rounds.proofs.ListLemmas.{at_set, slice_index-replicate}
 use Rattle.slot_rounds.proofs.Soundness.{IsSoundSlot, IsSoundNow, IsSoundLate, IsSoundWrite, IsSound, IsOfWrite}
-use Rattle.slot_rounds.proofs.MovedLemmas.{IsMove, moved, comes_to_rest, IsOfWrite-put_other}
+use Rattle.slot_rounds.proofs.MovedLemmas.{moved, comes_to_rest, IsOfWrite-put_other}
 use Rattle.slot_rounds.proofs.HeldLemmas.{IsKnown, IsKnown-backup, IsKnown-held}
 use Rattle.slot_rounds.proofs.DecidedLemmas.{HasFewWords-nil}
 use Rattle.slot_rounds.proofs.StepLemmas.{with_writer, IsSound-steady, IsOfWrite-without}
@@ -93,9 +93,9 @@ IsSound-idle : (state : State) (number : ℕ) → IsSound state → state.writer
 IsSound-idle state number sound idle =
     comes_to_rest state number state.slot sound sound.slot_sound
     (λ place within taken.
-      let of = sound.whose place within taken in
-      IsOfWrite-put_other state.slot.primary state.writers number Idle (slice_index state.slot.firsts place) of
-      (not_idle state number idle (slice_index state.slot.firsts place) of))
+    let of = sound.whose place within taken in
+    IsOfWrite-put_other state.slot.primary state.writers number Idle (slice_index state.slot.firsts place) of
+    (not_idle state number idle (slice_index state.slot.firsts place) of))
     (λ other others apart others_is. sound.each other others others_is)
 
 -- a write that was broken off is sound in each slot that has not its word
@@ -129,8 +129,8 @@ IsSound-quit state number Idle is sound may = IsSound-idle state number sound is
 IsSound-quit state number (Writing write) is sound may =
     comes_to_rest state number state.slot sound sound.slot_sound
     (λ place within taken.
-      IsOfWrite-without state sound number write is (slice_index state.slot.firsts place)
-      (λ _ same. may write is place within (sym same)) (sound.whose place within taken))
+    IsOfWrite-without state sound number write is (slice_index state.slot.firsts place)
+    (λ _ same. may write is place within (sym same)) (sound.whose place within taken))
     (λ other others apart others_is. sound.each other others others_is)
 
 -- ---- words are copied and installed
@@ -144,20 +144,20 @@ pub IsSound-copied : (state : State) (place word : ℕ) → IsSound state → Ma
 IsSound-copied state place word sound may =
     record {
       slot_sound =
-        record {
-          some = omega (arith, sound.slot_sound.some, length-set state.slot.backups place word);
-          long = refl;
-          none = λ other within is. is;
-          untaken = λ other within is. is;
-          each = λ other within. inl refl;
-        };
+          record {
+            some = omega (arith, sound.slot_sound.some, length-set state.slot.backups place word);
+            long = refl;
+            none = λ other within is. is;
+            untaken = λ other within is. is;
+            each = λ other within. inl refl;
+          };
       whose = λ other within.
           at_set (λ w. w ≢ state.slot.primary → IsOfWrite state.slot.primary state.writers w)
           state.slot.backups place other word may.0
           (λ _ taken. taken_of state word (IsKnown-held state sound word may.1) taken)
           (λ _ taken.
-            taken_of state (slice_index state.slot.backups other)
-            (IsKnown-backup state sound other (omega (arith, within, length-set state.slot.backups place word))) taken);
+          taken_of state (slice_index state.slot.backups other)
+          (IsKnown-backup state sound other (omega (arith, within, length-set state.slot.backups place word))) taken);
       each = λ number write is.
           let write_sound = sound.each number write is in
           let gone = may.2 number write is in

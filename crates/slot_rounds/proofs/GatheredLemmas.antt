@@ -1,22 +1,20 @@
 -- What a write knows once its list is full: a write of the present round that does not lose has the
 -- winner of the first words; a write whose round has ended does not win.
-use Rattle.std.proofs.Common.{◌≡◌, ◌≢◌, ℕ, ◌+◌, ◌-◌, ◌*◌, ◌<◌, ◌≤◌, ◌==◌, Bool, true, false, nat_lt, if◌then◌else◌, List, [], ◌∷◌, ◌++◌, length, drop, slice_index, refl, sym, ◌∙◌, ap, subst, arith, inl, inr, length-drop, length-append, drop-drop, get_or-drop}
-use Rattle.std.specs.Prelude.{Contains}
-use Rattle.std.specs.List.{All as AllOf}
+use Rattle.std.proofs.Common.{◌≡◌, ℕ, ◌+◌, ◌*◌, ◌<◌, ◌≤◌, ◌==◌, nat_lt, List, [], ◌∷◌, ◌++◌, length, drop, slice_index, refl, sym, ◌∙◌, ap, subst, arith, inl, inr, length-drop, drop-drop, get_or-drop}
 use Rattle.std.proofs.lemmas.Bool.{cond_both, cases_lt, ltb-true, ltb-false, eqb-true, cases_eq}
 use Rattle.std.proofs.lemmas.List.Elements.{All-contains}
 use Rattle.snapshot_rules.specs.declared.rules.Verdict.{Verdict}
 use Rattle.snapshot_rules.specs.declared.rules.Verdict.TheVariants.{All, Most, CheckLeast, Lose}
-use Rattle.snapshot_rules.specs.Winner.{times, IsMajority, winner}
+use Rattle.snapshot_rules.specs.Winner.{times, winner}
 use Rattle.snapshot_rules.specs.Verdict.{verdict_of}
 use Rattle.snapshot_rules.proofs.WinnerLemmas.{winner-majority}
 use Rattle.snapshot_rules.proofs.VerdictLemmas.{constant-from_All, IsMajority-from_Most, winner-from_All, winner-from_Most, winner-from_CheckLeast, winner-from_Lose}
 use Rattle.slot_rounds.specs.Slot.{Slot}
-use Rattle.slot_rounds.specs.Write.{Phase, Gathering, Mending, Checking, Deciding, Waiting, Left, mend_from, on_verdict, gathered}
+use Rattle.slot_rounds.specs.Write.{Gathering, Mending, mend_from, on_verdict, gathered}
 use Rattle.slot_rounds.specs.Claims.{IsFull}
 use Rattle.slot_rounds.proofs.ListLemmas.{Contains-slice_index, times-constant, at_push}
-use Rattle.slot_rounds.proofs.MendedLemmas.{IsMendedList, winner-mended}
-use Rattle.slot_rounds.proofs.Soundness.{IsFirstOrWinner, IsSoundSlot, IsListed, AllListed, IsMendedTo, HasFewWords, IsSoundNow, IsSoundLate}
+use Rattle.slot_rounds.proofs.MendedLemmas.{winner-mended}
+use Rattle.slot_rounds.proofs.Soundness.{IsSoundSlot, IsListed, AllListed, IsMendedTo, HasFewWords, IsSoundNow, IsSoundLate}
 
 -- the list goes on with a word that is listed rightly
 pub AllListed-push : (slot : Slot) (fresh : ℕ) (list : List ℕ) (word : ℕ) → AllListed slot fresh list
@@ -92,8 +90,8 @@ IsSoundNow-mend_from slot fresh list (word ∷ rest) place is mended =
     let later : rest ≡ drop (place + 1) list = ap (drop 1) is ∙ drop-drop 1 place list in
     cond_both (word == fresh) (mend_from fresh (place + 1) rest) (Mending place) (λ phase. IsSoundNow phase slot fresh list)
     (λ same.
-      IsSoundNow-mend_from slot fresh list rest (place + 1) later
-      (IsMendedTo-more slot fresh list place mended (listed ∙ eqb-true word fresh same)))
+    IsSoundNow-mend_from slot fresh list rest (place + 1) later
+    (IsMendedTo-more slot fresh list place mended (listed ∙ eqb-true word fresh same)))
     (λ other. (within, mended))
   where
     at_drop : (n : ℕ) (words : List ℕ) (one : ℕ) (others : List ℕ) → one ∷ others ≡ drop n words → slice_index words n ≡ one
@@ -138,8 +136,8 @@ IsSoundNow-gathered slot count fresh list sound is short all =
     (λ phase. IsSoundNow phase slot fresh list)
     (λ less. (omega (arith, ltb-true (length list) count less, is), all))
     (λ full.
-      IsSoundNow-on_verdict (verdict_of list fresh) slot fresh list sound
-      (omega (arith, ltb-false (length list) count full, is)) all refl)
+    IsSoundNow-on_verdict (verdict_of list fresh) slot fresh list sound
+    (omega (arith, ltb-false (length list) count full, is)) all refl)
 
 -- a full list with few own words is judged
 IsSoundLate-on_verdict : (verdict : Verdict) (slot : Slot) (fresh : ℕ) (list : List ℕ) → 0 < length list
@@ -148,7 +146,7 @@ IsSoundLate-on_verdict : (verdict : Verdict) (slot : Slot) (fresh : ℕ) (list :
 IsSoundLate-on_verdict All slot fresh list some long few is =
     let constant = constant-from_All list fresh is in
     let count = times-constant fresh list (λ place within.
-          All-contains (λ w. w ≡ fresh) list (slice_index list place) constant (Contains-slice_index list place within)) in
+    All-contains (λ w. w ≡ fresh) list (slice_index list place) constant (Contains-slice_index list place within)) in
     absurd (omega (arith, count, few, long, some))
 IsSoundLate-on_verdict Most slot fresh list some long few is =
     absurd (omega (arith, IsMajority-from_Most list fresh is, few, long))
@@ -163,5 +161,5 @@ IsSoundLate-gathered slot count fresh list some is short few =
     (λ phase. IsSoundLate phase slot list)
     (λ less. omega (arith, ltb-true (length list) count less, is))
     (λ full.
-      IsSoundLate-on_verdict (verdict_of list fresh) slot fresh list some
-      (omega (arith, ltb-false (length list) count full, is)) few refl)
+    IsSoundLate-on_verdict (verdict_of list fresh) slot fresh list some
+    (omega (arith, ltb-false (length list) count full, is)) few refl)

@@ -3,10 +3,8 @@ use Rattle.std.proofs.Common.{◌≡◌, ◌≢◌, ℕ, ◌<◌, ◌⊎◌, len
 use Rattle.std.proofs.lemmas.Bool.{cases_eq}
 use Rattle.snapshot_rules.specs.Winner.{winner}
 use Rattle.snapshot_rules.proofs.WinnerLemmas.{Contains-winner}
-use Rattle.slot_rounds.specs.Slot.{Slot}
 use Rattle.slot_rounds.specs.Write.{Write, Writing}
 use Rattle.slot_rounds.specs.Run.{State}
-use Rattle.slot_rounds.specs.Claims.{IsFull}
 use Rattle.slot_rounds.specs.Allowed.{IsHeld}
 use Rattle.slot_rounds.proofs.ListLemmas.{place_of_Contains}
 use Rattle.slot_rounds.proofs.Soundness.{IsSound, IsOfWrite}

@@ -9,3 +9,4 @@ pub mod DecidedLemmas
 pub mod StepLemmas
 pub mod EventLemmas
 pub mod RoundLemmas
+pub mod SinceLemmas

@@ -1,8 +1,8 @@
 -- A list in which some words were replaced by the winner has the same winner.
-use Rattle.std.proofs.Common.{◌≡◌, ◌≢◌, ℕ, ◌*◌, ◌<◌, ◌≤◌, ◌⊎◌, Bool, true, false, List, length, slice_index, refl, sym, ◌∙◌, ap, subst, arith, inl, inr}
+use Rattle.std.proofs.Common.{◌≡◌, ◌≢◌, ℕ, ◌<◌, ◌≤◌, ◌⊎◌, true, false, List, length, slice_index, sym, ◌∙◌, subst, arith, inl, inr}
 use Rattle.std.specs.Prelude.{Contains}
-use Rattle.std.proofs.lemmas.Bool.{cases_Bool, cases_eq, cases_lt}
-use Rattle.snapshot_rules.specs.Winner.{times, IsMajority, is_majority, least, winner}
+use Rattle.std.proofs.lemmas.Bool.{cases_Bool, cases_eq}
+use Rattle.snapshot_rules.specs.Winner.{IsMajority, is_majority, least, winner}
 use Rattle.snapshot_rules.proofs.WinnerLemmas.{IsMajority-from_test, is_majority-majority, winner-majority, winner-no_majority, Contains-winner, least-le, least-is}
 use Rattle.slot_rounds.proofs.ListLemmas.{Contains-slice_index, place_of_Contains, times-le}
 
@@ -22,7 +22,6 @@ no_majority-from_winner words less word most =
 
 module _ (firsts list : List ℕ) (some : 0 < length firsts) (same : length list ≡ length firsts)
     (mended : IsMendedList firsts list) where
-
   -- where a first word is the winner, the listed word is too
   winner_listed : (place : ℕ) → place < length firsts → slice_index firsts place ≡ winner firsts
       → slice_index list place ≡ winner firsts
@@ -54,7 +53,7 @@ module _ (firsts list : List ℕ) (some : 0 < length firsts) (same : length list
       elim (mended at.0 at.1) [
         | inl first ↦
             let below : least firsts ≤ slice_index firsts at.0 =
-                least-le firsts (slice_index firsts at.0) (Contains-slice_index firsts at.0 (omega (arith, at.1))) in
+            least-le firsts (slice_index firsts at.0) (Contains-slice_index firsts at.0 (omega (arith, at.1))) in
             omega (arith, least_first, below, at.2, first)
         | inr won ↦ omega (arith, won, at.2)
       ]
@@ -72,7 +71,7 @@ module _ (firsts list : List ℕ) (some : 0 < length firsts) (same : length list
               | inl is ↦ is
               | inr other ↦
                   let none : (word : ℕ) → IsMajority word list → ⊥ = λ word most.
-                      majority_listed word (λ is. other (winner-majority word list most ∙ is)) most in
+                  majority_listed word (λ is. other (winner-majority word list most ∙ is)) most in
                   winner-no_majority list none
                   ∙ least-is list (winner firsts) winner_stands (λ word has. winner_is_least less word has)
             ]

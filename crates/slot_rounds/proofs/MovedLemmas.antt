@@ -1,5 +1,5 @@
 -- A state is sound after one writer has moved, where the slot, that writer and the others are.
-use Rattle.std.proofs.Common.{◌≡◌, ◌≢◌, ℕ, ◌<◌, ◌==◌, ◌⊎◌, length, slice_index, refl, sym, ◌∙◌, subst, inl, inr, eq-eqb, ne_eqb}
+use Rattle.std.proofs.Common.{◌≡◌, ◌≢◌, ℕ, ◌<◌, ◌⊎◌, length, slice_index, refl, sym, ◌∙◌, subst, inl, inr, eq-eqb, ne_eqb}
 use Rattle.std.proofs.lemmas.Bool.{cases_eq}
 use Rattle.slot_rounds.specs.Slot.{Slot}
 use Rattle.slot_rounds.specs.Write.{Write, Writer, Idle, Writing}
@@ -76,14 +76,14 @@ IsOfWrite-put primary writers number write later word is keeps of =
 pub record IsMove (state : State) (number : ℕ) (writer : Writer) (slot : Slot) : Type 0 where
   pub slot_sound : IsSoundSlot slot
   pub whose : (place : ℕ) → place < length slot.firsts → slice_index slot.firsts place ≢ slot.primary
-    → IsOfWrite slot.primary (put state.writers number writer) (slice_index slot.firsts place)
+      → IsOfWrite slot.primary (put state.writers number writer) (slice_index slot.firsts place)
   pub others : (other : ℕ) (write : Write) → number ≢ other → state.writers other ≡ Writing write → IsSoundWrite slot write
   pub own : (write : Write) → writer ≡ Writing write → IsSoundWrite slot write
   pub apart : (write : Write) → writer ≡ Writing write → (other : ℕ) (others : Write) → number ≢ other
-    → state.writers other ≡ Writing others → write.fresh ≢ others.fresh
+      → state.writers other ≡ Writing others → write.fresh ≢ others.fresh
   pub own_unexpected : (write : Write) → writer ≡ Writing write → write.fresh ≢ write.expected
   pub unexpected : (write : Write) → writer ≡ Writing write → (other : ℕ) (others : Write) → number ≢ other
-    → state.writers other ≡ Writing others → (write.fresh ≢ others.expected) × (others.fresh ≢ write.expected)
+      → state.writers other ≡ Writing others → (write.fresh ≢ others.expected) × (others.fresh ≢ write.expected)
 
 pub moved : (state : State) (number : ℕ) (writer : Writer) (slot : Slot) → IsSound state → IsMove state number writer slot
     → IsSound (record { slot = slot; writers = put state.writers number writer })
@@ -131,7 +131,7 @@ moved state number writer slot sound move =
 pub goes_on : (state : State) (number : ℕ) (write later : Write) (slot : Slot) → IsSound state
     → state.writers number ≡ Writing write → KeepsWords write later → IsSoundSlot slot
     → ((place : ℕ) → place < length slot.firsts → slice_index slot.firsts place ≢ slot.primary
-      → IsOfWrite slot.primary (put state.writers number (Writing later)) (slice_index slot.firsts place))
+    → IsOfWrite slot.primary (put state.writers number (Writing later)) (slice_index slot.firsts place))
     → ((other : ℕ) (others : Write) → number ≢ other → state.writers other ≡ Writing others → IsSoundWrite slot others)
     → IsSoundWrite slot later
     → IsSound (record { slot = slot; writers = put state.writers number (Writing later) })
@@ -149,20 +149,21 @@ goes_on state number write later slot sound is keeps slot_sound whose others own
           sound.unexpected number number write write is is
           (sym keeps.fresh ∙ (fresh_of w writes ∙ (clash ∙ (sym (expected_of w writes) ∙ keeps.expected))));
       unexpected = λ w writes other others apart others_is. (
-          λ clash. sound.unexpected number other write others is others_is (sym keeps.fresh ∙ (fresh_of w writes ∙ clash)),
-          λ clash. sound.unexpected other number others write others_is is (clash ∙ (sym (expected_of w writes) ∙ keeps.expected))
-        );
+        λ clash. sound.unexpected number other write others is others_is (sym keeps.fresh ∙ (fresh_of w writes ∙ clash)),
+        λ clash. sound.unexpected other number others write others_is is (clash ∙ (sym (expected_of w writes) ∙ keeps.expected)),
+      );
     })
   where
     fresh_of : (w : Write) → Writing later ≡ Writing w → later.fresh ≡ w.fresh
     fresh_of w writes = let same : later ≡ w = cc in subst (λ (w : Write). later.fresh ≡ w.fresh) same refl
+
     expected_of : (w : Write) → Writing later ≡ Writing w → later.expected ≡ w.expected
     expected_of w writes = let same : later ≡ w = cc in subst (λ (w : Write). later.expected ≡ w.expected) same refl
 
 -- the writer is at rest then
 pub comes_to_rest : (state : State) (number : ℕ) (slot : Slot) → IsSound state → IsSoundSlot slot
     → ((place : ℕ) → place < length slot.firsts → slice_index slot.firsts place ≢ slot.primary
-      → IsOfWrite slot.primary (put state.writers number Idle) (slice_index slot.firsts place))
+    → IsOfWrite slot.primary (put state.writers number Idle) (slice_index slot.firsts place))
     → ((other : ℕ) (others : Write) → number ≢ other → state.writers other ≡ Writing others → IsSoundWrite slot others)
     → IsSound (record { slot = slot; writers = put state.writers number Idle })
 comes_to_rest state number slot sound slot_sound whose others =

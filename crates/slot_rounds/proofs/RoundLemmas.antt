@@ -1,13 +1,12 @@
 -- The theorem on rounds: a sound state stays sound at each event, and what is claimed of an event holds.
-use Rattle.std.proofs.Common.{◌≡◌, ◌≢◌, ℕ, ◌+◌, ◌*◌, ◌<◌, ◌≤◌, ◌==◌, ◌⊎◌, Bool, true, false, cond, if◌then◌else◌, List, [], ◌∷◌, length, drop, slice_index, refl, sym, ◌∙◌, ap, subst, arith, inl, inr, eq-eqb}
+use Rattle.std.proofs.Common.{◌≡◌, ◌≢◌, ℕ, ◌+◌, ◌<◌, ◌==◌, ◌⊎◌, Bool, true, false, if◌then◌else◌, List, [], ◌∷◌, length, drop, slice_index, refl, sym, ◌∙◌, ap, subst, inl, inr, eq-eqb}
 use Rattle.std.proofs.lemmas.Bool.{cases_eq, cond_both}
-use Rattle.snapshot_rules.specs.Winner.{times, winner}
-use Rattle.slot_rounds.specs.Slot.{Slot, SwapBackup, SwapPrimary, apply, decided, swapped, answer}
+use Rattle.slot_rounds.specs.Slot.{Slot, SwapBackup, apply, decided, swapped, answer}
 use Rattle.slot_rounds.specs.Write.{Phase, Gathering, Mending, Checking, Deciding, Waiting, Left, Write, Writer, Idle, Writing, Told, Going, Won, Unchanged, Changed, after_at, told_at, begun, left, with_listed, word_after, with_phase, mend_from, verb_of}
-use Rattle.slot_rounds.specs.Run.{State, Event, Begin, Step, Leave, Quit, Copy, Install, put, opening, without, broken_off, stepped, told_to, happens, told}
+use Rattle.slot_rounds.specs.Run.{State, Event, Begin, Step, Leave, Quit, Copy, Install, put, opening, broken_off, stepped, told_to, happens, told}
 use Rattle.slot_rounds.specs.Allowed.{MayHappen, IsAllowed}
-use Rattle.slot_rounds.specs.Claims.{IsFull, IsEverywhere, IsFinalSwap, IsInstalled, Decides, HaveFewWords, StayEnded, Holds, HoldsAlong}
-use Rattle.slot_rounds.proofs.Soundness.{IsMendedTo, IsSoundWrite, IsSound}
+use Rattle.slot_rounds.specs.Claims.{IsEverywhere, IsFinalSwap, IsInstalled, Decides, StayEnded, Holds, HoldsAlong}
+use Rattle.slot_rounds.proofs.Soundness.{IsMendedTo, IsSound}
 use Rattle.slot_rounds.proofs.MovedLemmas.{writing_put}
 use Rattle.slot_rounds.proofs.HeldLemmas.{IsKnown-held}
 use Rattle.slot_rounds.proofs.StepLemmas.{IsSound-stepped, round_of, written}
@@ -116,7 +115,7 @@ Decides-last state number expected fresh list sound is =
     let round : expected ≡ state.slot.primary = round_of state.slot (written expected fresh list Deciding) write_sound write_sound.late in
     let mended : IsMendedTo state.slot fresh list (length state.slot.backups) = write_sound.now round in
     let slot_is : (happens state (Step number)).slot ≡ decided state.slot fresh =
-        ap (λ w. (stepped state number w).slot) is ∙ rw (eq-eqb state.slot.primary expected (sym round)) in
+    ap (λ w. (stepped state number w).slot) is ∙ rw (eq-eqb state.slot.primary expected (sym round)) in
     record {
       found = sym round;
       made = ap (λ (s : Slot). s.primary) slot_is;
@@ -131,7 +130,7 @@ pub Decides-final : (state : State) (event : Event) → IsSound state → (swap 
 Decides-final state event sound swap =
     let write = swap.write in
     let last : write ≡ written write.expected write.fresh write.list Deciding =
-        ap (written write.expected write.fresh write.list) swap.last in
+    ap (written write.expected write.fresh write.list) swap.last in
     let decides = Decides-last state swap.number write.expected write.fresh write.list sound (swap.writes ∙ ap Writing last) in
     let so : Decides state (Step swap.number) write = subst (Decides state (Step swap.number)) (sym last) decides in
     subst (λ e. Decides state e write) (sym swap.step) so
@@ -177,8 +176,8 @@ expected-stepped state number (Writing mine) here one write other is other_is =
     expected-put state number (after_at mine.phase (length state.slot.backups) mine (answer state.slot (verb_of mine)))
     one write other
     (λ later later_is after.
-      expected-after mine.phase (length state.slot.backups) mine (answer state.slot (verb_of mine)) other after
-      ∙ expected-same later mine (sym later_is ∙ here))
+    expected-after mine.phase (length state.slot.backups) mine (answer state.slot (verb_of mine)) other after
+    ∙ expected-same later mine (sym later_is ∙ here))
     is other_is
 
 expected-broken_off : (writer : Writer) (other later : Write) → writer ≡ Writing later → broken_off writer ≡ Writing other
@@ -188,7 +187,7 @@ expected-broken_off (Writing mine) other later is other_is =
     expected-same (left mine) other other_is ∙ expected-same later mine (sym is)
 
 -- a write under way keeps its expected word
-expected-happens : (state : State) (event : Event) → MayHappen state event → (one : ℕ) (write other : Write)
+pub expected-happens : (state : State) (event : Event) → MayHappen state event → (one : ℕ) (write other : Write)
     → state.writers one ≡ Writing write → (happens state event).writers one ≡ Writing other → other.expected ≡ write.expected
 expected-happens state (Begin number expected fresh) may one write other is other_is =
     expected-put state number (Writing (begun expected fresh)) one write other
@@ -215,7 +214,7 @@ not_expected state event sound may other one write is same =
           sound.unexpected swap.number one swap.write write swap.writes is (sym (same ∙ made))
       | inr installed ↦
           let made : (happens state event).slot.primary ≡ installed.write.fresh =
-              ap (λ e. (happens state e).slot.primary) installed.install in
+          ap (λ e. (happens state e).slot.primary) installed.install in
           sound.unexpected installed.number one installed.write write installed.writes is (sym (same ∙ made))
     ]
 
@@ -243,9 +242,9 @@ holds state event may sound =
 pub HoldsAlong-sound : (state : State) (events : List Event) → IsSound state → IsAllowed state events → HoldsAlong state events
 HoldsAlong-sound state [] sound allowed = tt
 HoldsAlong-sound state (event ∷ events) sound allowed = (
-      holds state event allowed.0 sound,
-      HoldsAlong-sound (happens state event) events (IsSound-happens state event allowed.0 sound) allowed.1,
-    )
+  holds state event allowed.0 sound,
+  HoldsAlong-sound (happens state event) events (IsSound-happens state event allowed.0 sound) allowed.1,
+)
 
 pub HoldsAlong-opening : (backups word : ℕ) (events : List Event) → 0 < backups
     → IsAllowed (opening backups word) events → HoldsAlong (opening backups word) events

@@ -77,10 +77,10 @@ pub record IsSound (state : State) : Type 0 where
   pub slot_sound : IsSoundSlot state.slot
   -- each first word is the fresh word of a write of this round
   pub whose : (place : ℕ) → place < length state.slot.firsts → slice_index state.slot.firsts place ≢ state.slot.primary
-    → IsOfWrite state.slot.primary state.writers (slice_index state.slot.firsts place)
+      → IsOfWrite state.slot.primary state.writers (slice_index state.slot.firsts place)
   pub each : (number : ℕ) (write : Write) → state.writers number ≡ Writing write → IsSoundWrite state.slot write
   pub apart : (number other : ℕ) (write others : Write) → number ≢ other → state.writers number ≡ Writing write
-    → state.writers other ≡ Writing others → write.fresh ≢ others.fresh
+      → state.writers other ≡ Writing others → write.fresh ≢ others.fresh
   -- no fresh word is expected by any write
   pub unexpected : (number other : ℕ) (write others : Write) → state.writers number ≡ Writing write
-    → state.writers other ≡ Writing others → write.fresh ≢ others.expected
+      → state.writers other ≡ Writing others → write.fresh ≢ others.expected

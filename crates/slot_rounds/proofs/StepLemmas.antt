@@ -1,13 +1,12 @@
 -- A state stays sound at each verb of a writer.
-use Rattle.std.proofs.Common.{◌≡◌, ◌≢◌, ℕ, ◌+◌, ◌<◌, ◌≤◌, ◌==◌, if◌then◌else◌, List, [], ◌∷◌, ◌++◌, length, drop, slice_index, replicate, refl, sym, ◌∙◌, ap, subst, subst₂, arith, inl, inr, length-set, length-append, eq-eqb, ne_eqb}
+use Rattle.std.proofs.Common.{◌≡◌, ◌≢◌, ℕ, ◌+◌, ◌<◌, ◌==◌, if◌then◌else◌, List, [], ◌∷◌, ◌++◌, length, drop, slice_index, refl, sym, ◌∙◌, ap, subst, subst₂, arith, inl, inr, length-set, length-append, eq-eqb, ne_eqb}
 use Rattle.std.proofs.lemmas.Bool.{cases_eq, cond_both, eqb-true, eqb-false}
 use Rattle.std.proofs.lemmas.List.{length-replicate}
-use Rattle.snapshot_rules.specs.Winner.{winner}
 use Rattle.slot_rounds.specs.Slot.{Slot, SwapBackup, SwapPrimary, apply, decided}
 use Rattle.slot_rounds.specs.Write.{Phase, Gathering, Mending, Checking, Deciding, Waiting, Left, Write, Writer, Idle, Writing, begun, with_phase, with_listed, word_after, mend_from}
 use Rattle.slot_rounds.specs.Run.{State, put, stepped}
 use Rattle.slot_rounds.proofs.ListLemmas.{at_set, slice_index-replicate, times-push_other}
-use Rattle.slot_rounds.proofs.Soundness.{IsSoundSlot, IsListed, IsMendedTo, HasFewWords, IsSoundNow, IsSoundLate, IsSoundWrite, IsSound, IsOfWrite}
+use Rattle.slot_rounds.proofs.Soundness.{IsMendedTo, HasFewWords, IsSoundNow, IsSoundWrite, IsSound, IsOfWrite}
 use Rattle.slot_rounds.proofs.MovedLemmas.{put_same, same_write, KeepsWords, IsOfWrite-put, IsOfWrite-put_other, goes_on, comes_to_rest}
 use Rattle.slot_rounds.proofs.GatheredLemmas.{AllListed-push, IsSoundNow-gathered, IsSoundLate-gathered, IsSoundNow-mend_from}
 use Rattle.slot_rounds.proofs.HeldLemmas.{IsKnown-backup, expected-known, fresh-unknown}
@@ -25,14 +24,13 @@ IsSound-as state number slot later writer next slots writers sound =
     subst₂ (λ s w. IsSound (with_writer state number s w)) (sym slots) (sym writers) sound
 
 module _ (state : State) (sound : IsSound state) (number : ℕ) (write : Write) (is : state.writers number ≡ Writing write) where
-
   -- the slot stays, and the write goes on
   pub IsSound-steady : (later : Write) → KeepsWords write later → IsSoundWrite state.slot later
       → IsSound (with_writer state number state.slot (Writing later))
   IsSound-steady later keeps own =
       goes_on state number write later state.slot sound is keeps sound.slot_sound
       (λ place within taken.
-        IsOfWrite-put state.slot.primary state.writers number write later (slice_index state.slot.firsts place) is keeps (sound.whose place within taken))
+      IsOfWrite-put state.slot.primary state.writers number write later (slice_index state.slot.firsts place) is keeps (sound.whose place within taken))
       (λ other others apart others_is. sound.each other others others_is)
       own
 
@@ -42,16 +40,16 @@ module _ (state : State) (sound : IsSound state) (number : ℕ) (write : Write) 
   IsOfWrite-without word not_its of =
       IsOfWrite-put_other state.slot.primary state.writers number Idle word of
       (λ same.
-        let one : write ≡ of.write = same_write state.writers number of.number write of.write same is of.writes in
-        not_its (subst (λ (w : Write). w.expected ≡ state.slot.primary) (sym one) of.round)
-        (subst (λ (w : Write). w.fresh ≡ word) (sym one) of.fresh))
+      let one : write ≡ of.write = same_write state.writers number of.number write of.write same is of.writes in
+      not_its (subst (λ (w : Write). w.expected ≡ state.slot.primary) (sym one) of.round)
+      (subst (λ (w : Write). w.fresh ≡ word) (sym one) of.fresh))
 
   -- the slot stays, and a write whose round has ended is over
   pub IsSound-over : write.expected ≢ state.slot.primary → IsSound (with_writer state number state.slot Idle)
   IsSound-over late =
       comes_to_rest state number state.slot sound sound.slot_sound
       (λ place within taken.
-        IsOfWrite-without (slice_index state.slot.firsts place) (λ round. absurd (late round)) (sound.whose place within taken))
+      IsOfWrite-without (slice_index state.slot.firsts place) (λ round. absurd (late round)) (sound.whose place within taken))
       (λ other others apart others_is. sound.each other others others_is)
 
   -- ---- the next backup is swapped
@@ -61,7 +59,7 @@ module _ (state : State) (sound : IsSound state) (number : ℕ) (write : Write) 
       → (write.expected ≡ state.slot.primary → IsSoundNow Gathering state.slot write.fresh write.list)
       → slice_index state.slot.firsts (length write.list) ≡ state.slot.primary
       → IsSound (with_writer state number (taking state.slot (length write.list) write.fresh)
-        (Writing (with_listed (length state.slot.backups) write write.fresh)))
+      (Writing (with_listed (length state.slot.backups) write write.fresh)))
   IsSound-taken short round now none =
       let place = length write.list in
       let slot_sound = sound.slot_sound in
@@ -72,22 +70,22 @@ module _ (state : State) (sound : IsSound state) (number : ℕ) (write : Write) 
       (record { fresh = refl; expected = refl })
       later_sound
       (λ other within.
-        at_set (λ w. w ≢ state.slot.primary → IsOfWrite state.slot.primary
-          (put state.writers number (Writing (with_listed (length state.slot.backups) write write.fresh))) w)
-        state.slot.firsts place other write.fresh (omega (arith, slot_sound.long, short))
-        (λ same taken. record {
-          number = number;
-          write = with_listed (length state.slot.backups) write write.fresh;
-          writes = put_same state.writers number (Writing (with_listed (length state.slot.backups) write write.fresh));
-          round = round;
-          fresh = refl;
-        })
-        (λ apart taken.
-          IsOfWrite-put state.slot.primary state.writers number write (with_listed (length state.slot.backups) write write.fresh)
-          (slice_index state.slot.firsts other) is (record { fresh = refl; expected = refl })
-          (sound.whose other (omega (arith, within, length-set state.slot.firsts place write.fresh)) taken)))
+      at_set (λ w. w ≢ state.slot.primary → IsOfWrite state.slot.primary
+      (put state.writers number (Writing (with_listed (length state.slot.backups) write write.fresh))) w)
+      state.slot.firsts place other write.fresh (omega (arith, slot_sound.long, short))
+      (λ same taken. record {
+        number = number;
+        write = with_listed (length state.slot.backups) write write.fresh;
+        writes = put_same state.writers number (Writing (with_listed (length state.slot.backups) write write.fresh));
+        round = round;
+        fresh = refl;
+      })
+      (λ apart taken.
+      IsOfWrite-put state.slot.primary state.writers number write (with_listed (length state.slot.backups) write write.fresh)
+      (slice_index state.slot.firsts other) is (record { fresh = refl; expected = refl })
+      (sound.whose other (omega (arith, within, length-set state.slot.firsts place write.fresh)) taken)))
       (λ other others apart others_is.
-        IsSoundWrite-taking state.slot place write.fresh slot_sound short none fresh others (sound.each other others others_is))
+      IsSoundWrite-taking state.slot place write.fresh slot_sound short none fresh others (sound.each other others others_is))
       (record {
         apart = fresh;
         now = λ _.
@@ -95,8 +93,8 @@ module _ (state : State) (sound : IsSound state) (number : ℕ) (write : Write) 
             (sym (length-set state.slot.backups place write.fresh))
             (omega (arith, length-append write.list (write.fresh ∷ []), short))
             (AllListed-push later write.fresh write.list write.fresh
-              (λ other below. IsListed-taking state.slot place write.fresh slot_sound short none fresh write.fresh other (slice_index write.list other) ((now round).1 other below))
-              (IsListed-taken state.slot place write.fresh slot_sound short none fresh));
+            (λ other below. IsListed-taking state.slot place write.fresh slot_sound short none fresh write.fresh other (slice_index write.list other) ((now round).1 other below))
+            (IsListed-taken state.slot place write.fresh slot_sound short none fresh));
         late = λ late. absurd (late round);
         few = λ late. absurd (late round);
       })
@@ -106,7 +104,7 @@ module _ (state : State) (sound : IsSound state) (number : ℕ) (write : Write) 
       → (write.expected ≡ state.slot.primary → IsSoundNow Gathering state.slot write.fresh write.list)
       → slice_index state.slot.backups (length write.list) ≢ write.expected
       → IsSound (with_writer state number state.slot
-        (Writing (with_listed (length state.slot.backups) write (slice_index state.slot.backups (length write.list)))))
+      (Writing (with_listed (length state.slot.backups) write (slice_index state.slot.backups (length write.list)))))
   IsSound-missed short now other =
       let place = length write.list in
       let found = slice_index state.slot.backups place in
@@ -118,11 +116,11 @@ module _ (state : State) (sound : IsSound state) (number : ℕ) (write : Write) 
             IsSoundNow-gathered state.slot (length state.slot.backups) write.fresh (write.list ++ found ∷ []) slot_sound refl
             (omega (arith, length-append write.list (found ∷ []), short))
             (AllListed-push state.slot write.fresh write.list found (now round).1
-              (record {
-                taken = λ none. other (slot_sound.none place short none ∙ sym round);
-                known = slot_sound.each place short;
-                still = inl refl;
-              }));
+            (record {
+              taken = λ none. other (slot_sound.none place short none ∙ sym round);
+              known = slot_sound.each place short;
+              still = inl refl;
+            }));
         late = λ late.
             IsSoundLate-gathered state.slot (length state.slot.backups) write.fresh (write.list ++ found ∷ [])
             (omega (arith, length-append write.list (found ∷ []))) refl
@@ -142,7 +140,7 @@ module _ (state : State) (sound : IsSound state) (number : ℕ) (write : Write) 
   IsSound-mended : (place : ℕ) → write.expected ≡ state.slot.primary → place < length state.slot.backups
       → IsMendedTo state.slot write.fresh write.list place
       → IsSound (with_writer state number (mending state.slot place write.fresh)
-        (Writing (with_phase write (mend_from write.fresh (place + 1) (drop (place + 1) write.list)))))
+      (Writing (with_phase write (mend_from write.fresh (place + 1) (drop (place + 1) write.list)))))
   IsSound-mended place round within mended =
       let slot_sound = sound.slot_sound in
       let fresh : write.fresh ≢ state.slot.primary = (sound.each number write is).apart in
@@ -151,11 +149,11 @@ module _ (state : State) (sound : IsSound state) (number : ℕ) (write : Write) 
       goes_on state number write (with_phase write phase) later sound is (record { fresh = refl; expected = refl })
       (IsSoundSlot-mending state.slot place write.fresh slot_sound within mended.full mended.wins fresh)
       (λ other inside taken.
-        IsOfWrite-put state.slot.primary state.writers number write (with_phase write phase) (slice_index state.slot.firsts other) is
-        (record { fresh = refl; expected = refl }) (sound.whose other inside taken))
+      IsOfWrite-put state.slot.primary state.writers number write (with_phase write phase) (slice_index state.slot.firsts other) is
+      (record { fresh = refl; expected = refl }) (sound.whose other inside taken))
       (λ other others apart others_is.
-        IsSoundWrite-mending state.slot place write.fresh slot_sound within mended.full mended.wins fresh others
-        (λ same. sound.apart number other write others apart is others_is (sym same)) (sound.each other others others_is))
+      IsSoundWrite-mending state.slot place write.fresh slot_sound within mended.full mended.wins fresh others
+      (λ same. sound.apart number other write others apart is others_is (sym same)) (sound.each other others others_is))
       (record {
         apart = fresh;
         now = λ _.
@@ -173,29 +171,29 @@ module _ (state : State) (sound : IsSound state) (number : ℕ) (write : Write) 
       comes_to_rest state number (decided state.slot write.fresh) sound
       (IsSoundSlot-decided state.slot write.fresh slot_sound (λ place within. mended.below place within within) mended.wins)
       (λ place within taken.
-        absurd (taken (slice_index-replicate (length state.slot.backups) write.fresh place
-          (omega (arith, within, length-replicate (length state.slot.backups) write.fresh)))))
+      absurd (taken (slice_index-replicate (length state.slot.backups) write.fresh place
+      (omega (arith, within, length-replicate (length state.slot.backups) write.fresh)))))
       (λ other others apart others_is.
-        let others_sound = sound.each other others others_is in
-        let differs : others.fresh ≢ write.fresh = λ same. sound.apart number other write others apart is others_is (sym same) in
-        let ends = λ (round : others.expected ≡ state.slot.primary).
-              IsSoundLate-decided state.slot write.fresh slot_sound (λ place within. mended.below place within within) mended.wins
-              others.phase others.fresh others.list differs (others_sound.now round) in
-        record {
-          apart = differs;
-          now = λ same. absurd (sound.unexpected number other write others is others_is (sym same));
-          late = λ _.
-              elim (cases_eq others.expected state.slot.primary) [
-                | inl round ↦ (ends round).0
-                | inr late ↦
-                    IsSoundLate-same state.slot (decided state.slot write.fresh) others.phase others.list refl (others_sound.late late)
-              ];
-          few = λ _.
-              elim (cases_eq others.expected state.slot.primary) [
-                | inl round ↦ (ends round).1
-                | inr late ↦ others_sound.few late
-              ];
-        })
+      let others_sound = sound.each other others others_is in
+      let differs : others.fresh ≢ write.fresh = λ same. sound.apart number other write others apart is others_is (sym same) in
+      let ends = λ (round : others.expected ≡ state.slot.primary).
+      IsSoundLate-decided state.slot write.fresh slot_sound (λ place within. mended.below place within within) mended.wins
+      others.phase others.fresh others.list differs (others_sound.now round) in
+      record {
+        apart = differs;
+        now = λ same. absurd (sound.unexpected number other write others is others_is (sym same));
+        late = λ _.
+            elim (cases_eq others.expected state.slot.primary) [
+              | inl round ↦ (ends round).0
+              | inr late ↦
+                  IsSoundLate-same state.slot (decided state.slot write.fresh) others.phase others.list refl (others_sound.late late)
+            ];
+        few = λ _.
+            elim (cases_eq others.expected state.slot.primary) [
+              | inl round ↦ (ends round).1
+              | inr late ↦ others_sound.few late
+            ];
+      })
 
   -- a write that was broken off begins anew
   IsSound-anew : write.expected ≡ state.slot.primary
@@ -227,8 +225,8 @@ IsSound-gathering : (state : State) → IsSound state → (number : ℕ) (write 
     → length write.list < length state.slot.backups
     → (write.expected ≡ state.slot.primary → IsSoundNow Gathering state.slot write.fresh write.list)
     → IsSound (with_writer state number
-      (apply state.slot (SwapBackup (length write.list) write.expected write.fresh))
-      (Writing (with_listed (length state.slot.backups) write (word_after write (slice_index state.slot.backups (length write.list))))))
+    (apply state.slot (SwapBackup (length write.list) write.expected write.fresh))
+    (Writing (with_listed (length state.slot.backups) write (word_after write (slice_index state.slot.backups (length write.list))))))
 IsSound-gathering state sound number write is short now =
     let place = length write.list in
     let found = slice_index state.slot.backups place in
@@ -236,7 +234,7 @@ IsSound-gathering state sound number write is short now =
     elim (cases_eq found write.expected) [
       | inl hit ↦
           let primary : found ≡ state.slot.primary =
-              expected-known state sound number write is found (IsKnown-backup state sound place short) hit in
+          expected-known state sound number write is found (IsKnown-backup state sound place short) hit in
           let round : write.expected ≡ state.slot.primary = sym hit ∙ primary in
           let none = sound.slot_sound.untaken place short primary in
           let own : word_after write found ≡ write.fresh = rw (eq-eqb found write.expected hit) in
@@ -255,12 +253,12 @@ IsSound-gathering state sound number write is short now =
 IsSound-mending : (state : State) → IsSound state → (number place : ℕ) (write : Write) → state.writers number ≡ Writing write
     → write.expected ≡ state.slot.primary → place < length state.slot.backups → IsMendedTo state.slot write.fresh write.list place
     → IsSound (with_writer state number (apply state.slot (SwapBackup place (slice_index write.list place) write.fresh))
-      (Writing (with_phase write (mend_from write.fresh (place + 1) (drop (place + 1) write.list)))))
+    (Writing (with_phase write (mend_from write.fresh (place + 1) (drop (place + 1) write.list)))))
 IsSound-mending state sound number place write is round within mended =
     let found = mended.rest place (omega arith) within in
     let taken : slice_index write.list place ≢ state.slot.primary = λ primary.
-          mended.full place (omega (arith, sound.slot_sound.long, within))
-          (sound.slot_sound.untaken place within (found ∙ primary)) in
+    mended.full place (omega (arith, sound.slot_sound.long, within))
+    (sound.slot_sound.untaken place within (found ∙ primary)) in
     let next = Writing (with_phase write (mend_from write.fresh (place + 1) (drop (place + 1) write.list))) in
     IsSound-as state number (apply state.slot (SwapBackup place (slice_index write.list place) write.fresh))
     (mending state.slot place write.fresh) next next
@@ -272,7 +270,7 @@ IsSound-deciding : (state : State) → IsSound state → (number : ℕ) (write :
     → IsSound (with_writer state number (apply state.slot (SwapPrimary write.expected write.fresh)) Idle)
 IsSound-deciding state sound number write is round mended =
     let found : apply state.slot (SwapPrimary write.expected write.fresh) ≡ decided state.slot write.fresh =
-        rw (eq-eqb state.slot.primary write.expected (sym round)) in
+    rw (eq-eqb state.slot.primary write.expected (sym round)) in
     IsSound-as state number (apply state.slot (SwapPrimary write.expected write.fresh)) (decided state.slot write.fresh) Idle Idle
     found refl (IsSound-decided state sound number write is round mended)
 
@@ -288,7 +286,7 @@ IsSound-phase Gathering expected fresh list state number sound is =
     let write = written expected fresh list Gathering in
     let write_sound = sound.each number write is in
     let short : length list < length state.slot.backups =
-        elim (cases_eq expected state.slot.primary) [ inl round ↦ (write_sound.now round).0 | inr late ↦ write_sound.late late ] in
+    elim (cases_eq expected state.slot.primary) [ inl round ↦ (write_sound.now round).0 | inr late ↦ write_sound.late late ] in
     IsSound-gathering state sound number write is short write_sound.now
 IsSound-phase (Mending place) expected fresh list state number sound is =
     let write = written expected fresh list (Mending place) in
@@ -302,13 +300,13 @@ IsSound-phase Checking expected fresh list state number sound is =
     let next = with_phase write (mend_from fresh 0 list) in
     IsSound-read state sound number write is next
     (λ round.
-      IsSound-steady state sound number write is next (record { fresh = refl; expected = refl })
-      (record {
-        apart = write_sound.apart;
-        now = λ _. IsSoundNow-mend_from state.slot fresh list list 0 refl (write_sound.now round);
-        late = λ late. absurd (late round);
-        few = write_sound.few;
-      }))
+    IsSound-steady state sound number write is next (record { fresh = refl; expected = refl })
+    (record {
+      apart = write_sound.apart;
+      now = λ _. IsSoundNow-mend_from state.slot fresh list list 0 refl (write_sound.now round);
+      late = λ late. absurd (late round);
+      few = write_sound.few;
+    }))
 IsSound-phase Deciding expected fresh list state number sound is =
     let write = written expected fresh list Deciding in
     let write_sound = sound.each number write is in

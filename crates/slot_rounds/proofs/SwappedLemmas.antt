@@ -1,13 +1,13 @@
 -- What a swap of one backup leaves sound: the swap that puts the first word of this round there, and the
 -- swap by which a winner mends it.
-use Rattle.std.proofs.Common.{◌≡◌, ◌≢◌, ℕ, ◌+◌, ◌*◌, ◌<◌, ◌≤◌, ◌==◌, ◌&&◌, true, false, List, length, slice_index, slice_set, refl, sym, ◌∙◌, ap, subst, arith, inl, inr, length-set, eq-eqb, ne_eqb}
+use Rattle.std.proofs.Common.{◌≡◌, ◌≢◌, ℕ, ◌+◌, ◌<◌, ◌==◌, List, length, slice_index, slice_set, refl, sym, ◌∙◌, ap, subst, arith, inl, inr, length-set, eq-eqb, ne_eqb}
 use Rattle.std.proofs.lemmas.Bool.{and_from, and_left}
-use Rattle.snapshot_rules.specs.Winner.{times, winner}
-use Rattle.slot_rounds.specs.Slot.{Slot, swapped, firsts_after, apply, SwapBackup}
+use Rattle.snapshot_rules.specs.Winner.{winner}
+use Rattle.slot_rounds.specs.Slot.{Slot, firsts_after, apply, SwapBackup}
 use Rattle.slot_rounds.specs.Write.{Phase, Gathering, Mending, Checking, Deciding, Waiting, Left, Write}
 use Rattle.slot_rounds.specs.Claims.{IsFull}
 use Rattle.slot_rounds.proofs.ListLemmas.{at_set}
-use Rattle.slot_rounds.proofs.Soundness.{IsFirstOrWinner, IsSoundSlot, IsListed, AllListed, IsMendedTo, HasFewWords, IsSoundNow, IsSoundLate, IsSoundWrite}
+use Rattle.slot_rounds.proofs.Soundness.{IsFirstOrWinner, IsSoundSlot, IsListed, IsMendedTo, IsSoundNow, IsSoundLate, IsSoundWrite}
 
 -- the slot once a backup got its first word
 abbrev pub taking : Slot → ℕ → ℕ → Slot
@@ -35,7 +35,7 @@ pub apply-taking : (slot : Slot) (place old new : ℕ) → slice_index slot.back
 unfolding with_firsts
 apply-taking slot place old new found round none =
     let both = and_from (old == slot.primary) (slice_index slot.firsts place == slot.primary)
-          (eq-eqb old slot.primary round) (eq-eqb (slice_index slot.firsts place) slot.primary none) in
+    (eq-eqb old slot.primary round) (eq-eqb (slice_index slot.firsts place) slot.primary none) in
     let firsts : firsts_after slot place old new ≡ slice_set slot.firsts place new = rw both in
     rw (eq-eqb (slice_index slot.backups place) old found) (ap (with_firsts slot place new) firsts)
 
@@ -45,7 +45,7 @@ pub apply-mending : (slot : Slot) (place old new : ℕ) → slice_index slot.bac
 unfolding with_firsts
 apply-mending slot place old new found other =
     let not_both = and_left (old == slot.primary) (slice_index slot.firsts place == slot.primary)
-          (ne_eqb old slot.primary other) in
+    (ne_eqb old slot.primary other) in
     let firsts : firsts_after slot place old new ≡ slot.firsts = rw not_both in
     rw (eq-eqb (slice_index slot.backups place) old found) (ap (with_firsts slot place new) firsts)
 
@@ -63,7 +63,6 @@ not_full slot place sound within none full = full place (omega (arith, sound.lon
 
 module _ (slot : Slot) (place new : ℕ) (sound : IsSoundSlot slot) (within : place < length slot.backups)
     (none : slice_index slot.firsts place ≡ slot.primary) (fresh : new ≢ slot.primary) where
-
   within_firsts : place < length slot.firsts
   within_firsts = omega (arith, sound.long, within)
 
@@ -80,28 +79,28 @@ module _ (slot : Slot) (place new : ℕ) (sound : IsSoundSlot slot) (within : pl
             slot.firsts place other new within_firsts
             (λ same is. absurd (fresh is))
             (λ apart is.
-              at_set (λ w. w ≡ slot.primary) slot.backups place other new within
-              (λ same. absurd (apart same))
-              (λ _. sound.none other (omega (arith, length-set slot.backups place new)) is));
+            at_set (λ w. w ≡ slot.primary) slot.backups place other new within
+            (λ same. absurd (apart same))
+            (λ _. sound.none other (omega (arith, length-set slot.backups place new)) is));
         untaken = λ other below.
             at_set (λ w. w ≡ slot.primary → slice_index (slice_set slot.firsts place new) other ≡ slot.primary)
             slot.backups place other new within
             (λ same is. absurd (fresh is))
             (λ apart is.
-              at_set (λ w. w ≡ slot.primary) slot.firsts place other new within_firsts
-              (λ same. absurd (apart same))
-              (λ _. sound.untaken other (omega (arith, length-set slot.backups place new)) is));
+            at_set (λ w. w ≡ slot.primary) slot.firsts place other new within_firsts
+            (λ same. absurd (apart same))
+            (λ _. sound.untaken other (omega (arith, length-set slot.backups place new)) is));
         each = λ other below.
             at_set (λ w. IsFirstOrWinner (taking slot place new) other w) slot.backups place other new within
             (λ same.
-              inl (at_set (λ w. new ≡ w) slot.firsts place other new within_firsts (λ _. refl) (λ apart. absurd (apart same))))
+            inl (at_set (λ w. new ≡ w) slot.firsts place other new within_firsts (λ _. refl) (λ apart. absurd (apart same))))
             (λ apart.
-              elim (sound.each other (omega (arith, length-set slot.backups place new))) [
-                | inl first ↦
-                    inl (at_set (λ w. slice_index slot.backups other ≡ w) slot.firsts place other new within_firsts
-                      (λ same. absurd (apart same)) (λ _. first))
-                | inr won ↦ absurd (never_full won.0)
-              ]);
+            elim (sound.each other (omega (arith, length-set slot.backups place new))) [
+              | inl first ↦
+                  inl (at_set (λ w. slice_index slot.backups other ≡ w) slot.firsts place other new within_firsts
+                  (λ same. absurd (apart same)) (λ _. first))
+              | inr won ↦ absurd (never_full won.0)
+            ]);
       }
 
   -- what another write has listed
@@ -110,17 +109,17 @@ module _ (slot : Slot) (place new : ℕ) (sound : IsSoundSlot slot) (within : pl
       record {
         taken = at_set (λ w. w ≢ slot.primary) slot.firsts place other new within_firsts (λ _. fresh) (λ _. listed.taken);
         known =
-          elim listed.known [
-            | inl first ↦
-                inl (at_set (λ w. word ≡ w) slot.firsts place other new within_firsts (λ same. absurd (elsewhere same)) (λ _. first))
-            | inr won ↦ absurd (never_full won.0)
-          ];
+            elim listed.known [
+              | inl first ↦
+                  inl (at_set (λ w. word ≡ w) slot.firsts place other new within_firsts (λ same. absurd (elsewhere same)) (λ _. first))
+              | inr won ↦ absurd (never_full won.0)
+            ];
         still =
-          elim listed.still [
-            | inl still ↦
-                inl (at_set (λ w. w ≡ word) slot.backups place other new within (λ same. absurd (elsewhere same)) (λ _. still))
-            | inr lost ↦ absurd (never_full lost.0)
-          ];
+            elim listed.still [
+              | inl still ↦
+                  inl (at_set (λ w. w ≡ word) slot.backups place other new within (λ same. absurd (elsewhere same)) (λ _. still))
+              | inr lost ↦ absurd (never_full lost.0)
+            ];
       }
     where
       elsewhere : other ≡ place → ⊥
@@ -138,9 +137,9 @@ module _ (slot : Slot) (place new : ℕ) (sound : IsSoundSlot slot) (within : pl
   IsSoundNow-taking : (phase : Phase) (mine : ℕ) (list : List ℕ) → IsSoundNow phase slot mine list
       → IsSoundNow phase (taking slot place new) mine list
   IsSoundNow-taking Gathering mine list now = (
-      omega (arith, now.0, length-set slot.backups place new),
-      λ other below. IsListed-taking mine other (slice_index list other) (now.1 other below),
-    )
+    omega (arith, now.0, length-set slot.backups place new),
+    λ other below. IsListed-taking mine other (slice_index list other) (now.1 other below),
+  )
   IsSoundNow-taking (Mending other) mine list now = absurd (never_full now.1.full)
   IsSoundNow-taking Checking mine list now = absurd (never_full now.full)
   IsSoundNow-taking Deciding mine list now = absurd (never_full now.full)
@@ -174,7 +173,6 @@ IsSoundWrite-taking slot place new sound within none fresh write write_sound =
 
 module _ (slot : Slot) (place new : ℕ) (sound : IsSoundSlot slot) (within : place < length slot.backups)
     (full : IsFull slot) (wins : winner slot.firsts ≡ new) (fresh : new ≢ slot.primary) where
-
   pub IsSoundSlot-mending : IsSoundSlot (mending slot place new)
   IsSoundSlot-mending =
       record {
@@ -211,10 +209,10 @@ module _ (slot : Slot) (place new : ℕ) (sound : IsSoundSlot slot) (within : pl
   IsSoundNow-mending : (phase : Phase) (mine : ℕ) (list : List ℕ) → mine ≢ new → IsSoundNow phase slot mine list
       → IsSoundNow phase (mending slot place new) mine list
   IsSoundNow-mending Gathering mine list other now = (
-      omega (arith, now.0, length-set slot.backups place new),
-      λ one below. let listed = now.1 one below in
+    omega (arith, now.0, length-set slot.backups place new),
+    λ one below. let listed = now.1 one below in
         record { taken = listed.taken; known = listed.known; still = inr (full, λ is. other (sym is ∙ wins)) },
-    )
+  )
   IsSoundNow-mending (Mending one) mine list other now = absurd (other (sym now.1.wins ∙ wins))
   IsSoundNow-mending Checking mine list other now = absurd (other (sym now.wins ∙ wins))
   IsSoundNow-mending Deciding mine list other now = absurd (other (sym now.wins ∙ wins))

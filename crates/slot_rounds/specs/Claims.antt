@@ -61,7 +61,7 @@ StayEnded before later =
 pub record Holds (state : State) (event : Event) : Type 0 where
   -- the deciding word changes by the final swap of a write, or is installed
   pub changes : (happens state event).slot.primary ≢ state.slot.primary
-    → IsFinalSwap state event ⊎ IsInstalled state event
+      → IsFinalSwap state event ⊎ IsInstalled state event
   -- who is told that it has won has made its final swap
   pub won : told state event ≡ Won → IsFinalSwap state event
   pub decides : (swap : IsFinalSwap state event) → Decides state event swap.write

@@ -1,7 +1,7 @@
 -- One slot and its writers, and what happens to them.
 use Rattle.std.specs.Prelude.{ℕ, ◌==◌, if◌then◌else◌, List, [], ◌∷◌, length}
 use Rattle.slot_rounds.specs.Slot.{Slot, settled, answer, apply, copied}
-use Rattle.slot_rounds.specs.Write.{Write, Writer, Idle, Writing, Told, Going, begun, left, verb_of, after_at, told_at}
+use Rattle.slot_rounds.specs.Write.{Writer, Idle, Writing, Told, Going, begun, left, verb_of, after_at, told_at}
 
 -- the slot, and each writer by its number
 pub record State : Type 0 where
@@ -47,7 +47,7 @@ stepped state number (Writing write) =
     record {
       slot = apply state.slot (verb_of write);
       writers = put state.writers number
-      (after_at write.phase (length state.slot.backups) write (answer state.slot (verb_of write)));
+          (after_at write.phase (length state.slot.backups) write (answer state.slot (verb_of write)));
     }
 
 abbrev pub happens : State → Event → State

@@ -2,7 +2,7 @@
 -- since the oldest write that is still under way began.
 use Rattle.std.specs.Prelude.{◌≡◌, ◌≢◌, ℕ, List, [], ◌∷◌, ◌++◌}
 use Rattle.slot_rounds.specs.Write.{Write, Writer, Idle, Writing}
-use Rattle.slot_rounds.specs.Run.{State, Event, Begin, Step, Leave, Quit, Copy, Install, happens, run}
+use Rattle.slot_rounds.specs.Run.{State, Event, Begin, happens, run}
 use Rattle.slot_rounds.specs.Allowed.{IsAbsent, MayHappen}
 
 -- the word is on no replica, and no write under way writes it
@@ -24,7 +24,7 @@ StaysUnderWay state (event ∷ events) number =
 pub record IsUnusedSince (start : State) (past : List Event) (word : ℕ) : Type 0 where
   pub now : IsUnused (run start past) word
   pub since : (before later : List Event) (number : ℕ) → past ≡ before ++ later
-    → StaysUnderWay (run start before) later number → IsUnused (run start before) word
+      → StaysUnderWay (run start before) later number → IsUnused (run start before) word
 
 -- an event after these ones: a write begins with the deciding word as the expected one, and its own word
 -- has been unused
