@@ -10,3 +10,4 @@ pub mod StepLemmas
 pub mod EventLemmas
 pub mod RoundLemmas
 pub mod SinceLemmas
+pub mod ExampleLemmas

@@ -4,3 +4,4 @@ pub mod Run
 pub mod Allowed
 pub mod Since
 pub mod Claims
+pub mod Example
