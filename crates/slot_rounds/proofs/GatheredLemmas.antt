@@ -1,7 +1,7 @@
 -- What a write knows once its list is full: a write of the present round that does not lose has the
 -- winner of the first words; a write whose round has ended does not win.
-use Rattle.std.proofs.Common.{◌≡◌, ℕ, ◌+◌, ◌*◌, ◌<◌, ◌≤◌, ◌==◌, nat_lt, List, [], ◌∷◌, ◌++◌, length, drop, slice_index, refl, sym, ◌∙◌, ap, subst, arith, inl, inr, length-drop, drop-drop, get_or-drop}
-use Rattle.std.proofs.lemmas.Bool.{cond_both, cases_lt, ltb-true, ltb-false, eqb-true, cases_eq}
+use Rattle.std.proofs.Common.{◌≡◌, ℕ, ◌+◌, ◌*◌, ◌<◌, ◌≤◌, ◌==◌, List, [], ◌∷◌, ◌++◌, length, drop, slice_index, refl, sym, ◌∙◌, ap, subst, arith, inl, inr, length-drop, drop-drop, get_or-drop}
+use Rattle.std.proofs.lemmas.Bool.{cond_both, cases_lt, eqb-true, eqb-false, cases_eq}
 use Rattle.std.proofs.lemmas.List.Elements.{All-contains}
 use Rattle.snapshot_rules.specs.declared.rules.Verdict.{Verdict}
 use Rattle.snapshot_rules.specs.declared.rules.Verdict.TheVariants.{All, Most, CheckLeast, Lose}
@@ -132,12 +132,12 @@ IsSoundNow-on_verdict Lose slot fresh list sound long all is =
 pub IsSoundNow-gathered : (slot : Slot) (count : ℕ) (fresh : ℕ) (list : List ℕ) → IsSoundSlot slot → count ≡ length slot.backups
     → length list ≤ count → AllListed slot fresh list → IsSoundNow (gathered count fresh list) slot fresh list
 IsSoundNow-gathered slot count fresh list sound is short all =
-    cond_both (nat_lt (length list) count) Gathering (on_verdict (verdict_of list fresh) fresh list)
+    cond_both (length list == count) (on_verdict (verdict_of list fresh) fresh list) Gathering
     (λ phase. IsSoundNow phase slot fresh list)
-    (λ less. (omega (arith, ltb-true (length list) count less, is), all))
     (λ full.
     IsSoundNow-on_verdict (verdict_of list fresh) slot fresh list sound
-    (omega (arith, ltb-false (length list) count full, is)) all refl)
+    (eqb-true (length list) count full ∙ is) all refl)
+    (λ less. (omega (arith, eqb-false (length list) count less, is, short), all))
 
 -- a full list with few own words is judged
 IsSoundLate-on_verdict : (verdict : Verdict) (slot : Slot) (fresh : ℕ) (list : List ℕ) → 0 < length list
@@ -157,9 +157,9 @@ IsSoundLate-on_verdict Lose slot fresh list some long few is = tt
 pub IsSoundLate-gathered : (slot : Slot) (count : ℕ) (fresh : ℕ) (list : List ℕ) → 0 < length list → count ≡ length slot.backups
     → length list ≤ count → HasFewWords slot fresh list → IsSoundLate (gathered count fresh list) slot list
 IsSoundLate-gathered slot count fresh list some is short few =
-    cond_both (nat_lt (length list) count) Gathering (on_verdict (verdict_of list fresh) fresh list)
+    cond_both (length list == count) (on_verdict (verdict_of list fresh) fresh list) Gathering
     (λ phase. IsSoundLate phase slot list)
-    (λ less. omega (arith, ltb-true (length list) count less, is))
     (λ full.
     IsSoundLate-on_verdict (verdict_of list fresh) slot fresh list some
-    (omega (arith, ltb-false (length list) count full, is)) few refl)
+    (eqb-true (length list) count full ∙ is) few refl)
+    (λ less. omega (arith, eqb-false (length list) count less, is, short))

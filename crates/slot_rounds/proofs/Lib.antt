@@ -11,3 +11,4 @@ pub mod EventLemmas
 pub mod RoundLemmas
 pub mod SinceLemmas
 pub mod ExampleLemmas
+pub mod NowhereLemmas

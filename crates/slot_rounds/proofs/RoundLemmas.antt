@@ -3,7 +3,7 @@ use Rattle.std.proofs.Common.{◌≡◌, ◌≢◌, ℕ, ◌+◌, ◌<◌, ◌==
 use Rattle.std.proofs.lemmas.Bool.{cases_eq, cond_both}
 use Rattle.slot_rounds.specs.Slot.{Slot, SwapBackup, apply, decided, swapped, answer}
 use Rattle.slot_rounds.specs.Write.{Phase, Gathering, Mending, Checking, Deciding, Waiting, Left, Write, Writer, Idle, Writing, Told, Going, Won, Unchanged, Changed, after_at, told_at, begun, left, with_listed, word_after, with_phase, mend_from, verb_of}
-use Rattle.slot_rounds.specs.Run.{State, Event, Begin, Step, Leave, Quit, Copy, Install, put, opening, broken_off, stepped, told_to, happens, told}
+use Rattle.slot_rounds.specs.Run.{State, Event, Begin, Step, Leave, Quit, Copy, Install, put, opening, broken_off, stepped, told_to, happens, told, run}
 use Rattle.slot_rounds.specs.Allowed.{MayHappen, IsAllowed}
 use Rattle.slot_rounds.specs.Claims.{IsEverywhere, IsFinalSwap, IsInstalled, Decides, StayEnded, Holds, HoldsAlong}
 use Rattle.slot_rounds.proofs.Soundness.{IsMendedTo, IsSound}
@@ -238,6 +238,11 @@ holds state event may sound =
     }
 
 -- ---- along a list of events
+
+pub IsSound-run : (state : State) (events : List Event) → IsSound state → IsAllowed state events → IsSound (run state events)
+IsSound-run state [] sound allowed = sound
+IsSound-run state (event ∷ events) sound allowed =
+    IsSound-run (happens state event) events (IsSound-happens state event allowed.0 sound) allowed.1
 
 pub HoldsAlong-sound : (state : State) (events : List Event) → IsSound state → IsAllowed state events → HoldsAlong state events
 HoldsAlong-sound state [] sound allowed = tt

@@ -1,5 +1,5 @@
 -- A write of one slot by one writer, verb by verb.
-use Rattle.std.specs.Prelude.{ℕ, ◌+◌, ◌==◌, nat_lt, if◌then◌else◌, List, [], ◌∷◌, ◌++◌, length, drop, slice_index}
+use Rattle.std.specs.Prelude.{ℕ, ◌+◌, ◌==◌, if◌then◌else◌, List, [], ◌∷◌, ◌++◌, length, drop, slice_index}
 use Rattle.snapshot_rules.specs.declared.rules.Verdict.{Verdict}
 use Rattle.snapshot_rules.specs.declared.rules.Verdict.TheVariants.{All, Most, CheckLeast, Lose}
 use Rattle.snapshot_rules.specs.Verdict.{verdict_of}
@@ -82,10 +82,10 @@ on_verdict Most fresh list = mend_from fresh 0 list
 on_verdict CheckLeast fresh list = Checking
 on_verdict Lose fresh list = Waiting
 
--- the phase with this list, of so many backups
+-- the phase with this list: once it has a word of each of so many backups, it is judged
 abbrev pub gathered : ℕ → ℕ → List ℕ → Phase
 gathered backups fresh list =
-    if nat_lt (length list) backups then Gathering else on_verdict (verdict_of list fresh) fresh list
+    if length list == backups then on_verdict (verdict_of list fresh) fresh list else Gathering
 
 -- the write once it knows this word of the next backup, of so many
 abbrev pub with_listed : ℕ → Write → ℕ → Write
