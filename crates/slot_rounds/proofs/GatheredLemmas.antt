@@ -10,7 +10,7 @@ use Rattle.snapshot_rules.specs.Verdict.{verdict_of}
 use Rattle.snapshot_rules.proofs.WinnerLemmas.{winner-majority}
 use Rattle.snapshot_rules.proofs.VerdictLemmas.{constant-from_All, IsMajority-from_Most, winner-from_All, winner-from_Most, winner-from_CheckLeast, winner-from_Lose}
 use Rattle.slot_rounds.specs.Slot.{Slot}
-use Rattle.slot_rounds.specs.Write.{Gathering, Mending, mend_from, on_verdict, gathered}
+use Rattle.slot_rounds.specs.Write.{Gathering, Mending, mend_from, on_verdict, judged, gathered}
 use Rattle.slot_rounds.specs.Claims.{IsFull}
 use Rattle.slot_rounds.proofs.ListLemmas.{Contains-slice_index, times-constant, at_push}
 use Rattle.slot_rounds.proofs.MendedLemmas.{winner-mended}
@@ -131,8 +131,9 @@ IsSoundNow-on_verdict Lose slot fresh list sound long all is =
 -- a write of this round goes on with its list
 pub IsSoundNow-gathered : (slot : Slot) (count : ℕ) (fresh : ℕ) (list : List ℕ) → IsSoundSlot slot → count ≡ length slot.backups
     → length list ≤ count → AllListed slot fresh list → IsSoundNow (gathered count fresh list) slot fresh list
+unfolding judged
 IsSoundNow-gathered slot count fresh list sound is short all =
-    cond_both (length list == count) (on_verdict (verdict_of list fresh) fresh list) Gathering
+    cond_both (length list == count) (on_verdict (judged list fresh) fresh list) Gathering
     (λ phase. IsSoundNow phase slot fresh list)
     (λ full.
     IsSoundNow-on_verdict (verdict_of list fresh) slot fresh list sound
@@ -156,8 +157,9 @@ IsSoundLate-on_verdict Lose slot fresh list some long few is = tt
 -- a write whose round has ended goes on with its list
 pub IsSoundLate-gathered : (slot : Slot) (count : ℕ) (fresh : ℕ) (list : List ℕ) → 0 < length list → count ≡ length slot.backups
     → length list ≤ count → HasFewWords slot fresh list → IsSoundLate (gathered count fresh list) slot list
+unfolding judged
 IsSoundLate-gathered slot count fresh list some is short few =
-    cond_both (length list == count) (on_verdict (verdict_of list fresh) fresh list) Gathering
+    cond_both (length list == count) (on_verdict (judged list fresh) fresh list) Gathering
     (λ phase. IsSoundLate phase slot list)
     (λ full.
     IsSoundLate-on_verdict (verdict_of list fresh) slot fresh list some

@@ -82,10 +82,14 @@ on_verdict Most fresh list = mend_from fresh 0 list
 on_verdict CheckLeast fresh list = Checking
 on_verdict Lose fresh list = Waiting
 
+-- what the full list says of a word
+unfoldable pub judged : List ℕ → ℕ → Verdict
+judged list fresh = verdict_of list fresh
+
 -- the phase with this list: once it has a word of each of so many backups, it is judged
 abbrev pub gathered : ℕ → ℕ → List ℕ → Phase
 gathered backups fresh list =
-    if length list == backups then on_verdict (verdict_of list fresh) fresh list else Gathering
+    if length list == backups then on_verdict (judged list fresh) fresh list else Gathering
 
 -- the write once it knows this word of the next backup, of so many
 abbrev pub with_listed : ℕ → Write → ℕ → Write

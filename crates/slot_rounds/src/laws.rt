@@ -27,8 +27,10 @@ pub fn rounds_since()
 
 /// Two writers may each reach another backup first. Then the one with the least word wins, and the
 /// other one waits until it has.
+#[tactic(auto, unfolding(crate::specs::Write::judged))]
 pub fn two_writers_at_once()
     ensures allowed { IsAllowed (opening 2 0) contended }
+    ensures allowed_since { IsAllowedSince (opening 2 0) [] contended }
     ensures waits { told (run (opening 2 0) contended) (Step 2) ≡ Unchanged }
     ensures won { told (run (opening 2 0) contended) (Step 1) ≡ Won }
     ensures changed { told (run (opening 2 0) (contended ++ Step 1 ∷ [])) (Step 2) ≡ Changed 5 }
