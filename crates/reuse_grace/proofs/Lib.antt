@@ -1,3 +1,4 @@
 pub mod Soundness
 pub mod EventLemmas
 pub mod GraceLemmas
+pub mod ExampleLemmas

@@ -1,3 +1,4 @@
 pub mod Stock
 pub mod Allowed
 pub mod Claims
+pub mod Example
