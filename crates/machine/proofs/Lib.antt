@@ -1,5 +1,6 @@
 pub mod BitChangeLemmas
 pub mod ChoosingLemmas
+pub mod ClientLemmas
 pub mod KeySearchLemmas
 pub mod KeyTestLemmas
 pub mod ObjectNamesLemmas

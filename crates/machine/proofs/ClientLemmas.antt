@@ -1,0 +1,122 @@
+-- A client stays one, whatever its verbs are answered.
+use Rattle.std.proofs.Common.{◌≡◌, ℕ, zero, suc, ◌+◌, ◌-◌, ◌*◌, ◌%◌, ◌^◌, ◌<◌, ◌≤◌, ◌==◌, ◌⊎◌, inl, inr, Bool, true, false, List, [], ◌∷◌, ◌++◌, length, get_or, map, filter, find, take, Option, Some, None, refl, sym, ap, subst, ◌∙◌, arith, length-append}
+use Rattle.std.specs.Prelude.{All, not, slice_index, slice_index_or}
+use Rattle.std.specs.List.{enumerate_from, range_with_len}
+use Rattle.std.proofs.lemmas.Bool.Decides.{nat_tests}
+use Rattle.std.proofs.lemmas.List.Elements.{All-append, All-filter, All-from_get_or, All-get_or, All-take}
+use Rattle.std.proofs.lemmas.List.FromFn.{get_or-enumerate_from, length-enumerate_from, length-map-range_with_len}
+use Rattle.machine.specs.declared.bit_change.Changed.{Changed}
+use Rattle.machine.specs.declared.bit_change.Changed.TheVariants as changed
+use Rattle.machine.specs.declared.choosing.Took.{Took}
+use Rattle.machine.specs.declared.choosing.Took.TheVariants as took
+use Rattle.machine.specs.declared.client_call.Outcome.{Outcome}
+use Rattle.machine.specs.declared.client_call.Outcome.TheVariants as outcome
+use Rattle.machine.specs.declared.client_call.Step.{Step}
+use Rattle.machine.specs.declared.key_search.Found.{Found}
+use Rattle.machine.specs.declared.key_search.Found.TheVariants as found_as
+use Rattle.machine.specs.declared.key_test.Tested.{Tested}
+use Rattle.machine.specs.declared.key_test.Tested.TheVariants as tested
+use Rattle.machine.specs.declared.object_write.Written.{Written}
+use Rattle.machine.specs.declared.object_write.Written.TheVariants as written
+use Rattle.machine.specs.declared.resolution.Resolved.{Resolved}
+use Rattle.machine.specs.declared.resolution.Resolved.TheVariants as resolved
+use Rattle.machine.specs.declared.slot_write.Wrote.{Wrote}
+use Rattle.machine.specs.declared.slot_write.Wrote.TheVariants as wrote
+use Rattle.machine.specs.declared.value_read.Fetched.{Fetched}
+use Rattle.machine.specs.declared.value_read.Fetched.TheVariants as fetched_as
+use Rattle.machine.specs.BitChange as bits
+use Rattle.machine.specs.BitChange.{BitChange, IsBitChange}
+use Rattle.machine.specs.Choosing as choosing
+use Rattle.machine.specs.Choosing.{IsChoosing, IsTaken}
+use Rattle.machine.specs.Client.{absent, chooses, chooses_for, cleared, ends, fetches, finds_at, finds_on, first_turn, frees_again, fresh_of, gives_back, goes_to, idles, is_beaten, kept_of, kind_of, link_of, logs, next, on_body, on_changed, on_choosing, on_clear, on_epoch, on_fetch, on_find, on_free, on_kind, on_log, on_lost, on_paused, on_resolved, on_return, on_round, on_searching, on_seek, on_test, on_took, on_value, on_version, on_wrote, own_object, refused, remembers, resolution_for, resumes, resumes_with, search_of, slot_of, stays, turn, turn_at, verb_at, view_of, won, write_body}
+use Rattle.machine.specs.EpochRead.{IsView, leaves_none_bare, mask_of, open_mask}
+use Rattle.machine.specs.KeySearch as search
+use Rattle.machine.specs.KeySearch.{IsKeySearch, KeySearch}
+use Rattle.machine.specs.KeyTest as test
+use Rattle.machine.specs.KeyTest.{IsKeyTest, KeyTest}
+use Rattle.machine.specs.ObjectNames.{IsObject, Object, candidate_in, names_object, object_in, pointer_in}
+use Rattle.machine.specs.Places.{IsInPool}
+use Rattle.machine.specs.Remembered.{Pair, is_of, place_for, with_place}
+use Rattle.machine.specs.Resolution as resolution
+use Rattle.machine.specs.Resolution.{IsResolution, Resolution}
+use Rattle.machine.specs.SlotWrite as slots
+use Rattle.machine.specs.SlotWrite.{IsSlotWrite, SlotWrite}
+use Rattle.machine.specs.Stage.{Client, Kept, FromStart, FromSeek, FromChoose, FromClear, FromBody, FromFind, FromResolve, FromFree, FromReturn, Operation, Get, Put, Delete, Stage, Idle, Start, ReadEpoch, Pause, Paused, LostNode, Seek, Fetch, Choose, Clear, Body, Find, ReadVersion, Log, WriteSlot, AwaitRound, TestKey, Resolve, Free, Return, End}
+use Rattle.machine.specs.Standing.{HasCall, HasClass, HasObject, HasPlace, IsAt, IsCall, IsClient, IsMember, IsPlaceOf, KeepsFor}
+use Rattle.machine.specs.Stock.{IsStock, Stock}
+use Rattle.machine.specs.Turn.{Turn}
+use Rattle.machine.specs.ValueRead as values
+use Rattle.machine.specs.ValueRead.{IsValueRead, ValueRead}
+use Rattle.machine.specs.WordsWrite as words
+use Rattle.machine.specs.WordsWrite.{IsWordsWrite, Piece, WordsWrite, body_of, log_of}
+use Rattle.machine.proofs.BitChangeLemmas as of_bits
+use Rattle.machine.proofs.ChoosingLemmas as of_choosing
+use Rattle.machine.proofs.KeySearchLemmas as of_search
+use Rattle.machine.proofs.KeySearchLemmas.{IsFoundAt}
+use Rattle.machine.proofs.KeyTestLemmas as of_test
+use Rattle.machine.proofs.KeyTestLemmas.{room_of-eight}
+use Rattle.machine.proofs.ObjectNamesLemmas.{candidate_in-object, object_in-is, object_in-pointer}
+use Rattle.machine.proofs.ResolutionLemmas as of_resolution
+use Rattle.machine.proofs.SlotWriteLemmas as of_slots
+use Rattle.machine.proofs.StockLemmas.{find-All}
+use Rattle.machine.proofs.ValueReadLemmas as of_values
+use Rattle.machine.proofs.WordsWriteLemmas as of_words
+use Rattle.object_form.specs.Class.{IsKeyLength, room_of, words_for, words_of}
+use Rattle.object_form.specs.Content.{padded_words, word_from}
+use Rattle.object_form.specs.declared.classes.TheConstants.{CLASSES, LONGEST}
+use Rattle.object_form.specs.declared.links.Link.{Link}
+use Rattle.object_form.specs.declared.metas.Kind.{Kind}
+use Rattle.object_form.specs.declared.metas.Kind.TheVariants.{Value, Tombstone}
+use Rattle.region_view.specs.Placed.{Viewed}
+use Rattle.region_view.specs.Sizes.{IsWithinLimits, Sizes}
+use Rattle.slot_order.proofs.OrderLemmas.{length-order_of-cases, order_of-below}
+use Rattle.slot_order.specs.Slots.{order_of}
+use Rattle.verb_words.specs.declared.verbs.Answer.{Answer}
+use Rattle.verb_words.specs.declared.verbs.Answer.TheVariants.{Word, Done, Lost}
+
+-- Remembered places.
+
+order_of-some : (key : List ℕ) (groups : ℕ) → 0 < length (order_of key groups)
+order_of-some key groups = elim (length-order_of-cases key groups) [
+    inl one ↦ omega (arith, one)
+  | inr more ↦ elim more [ inl two ↦ omega (arith, two) | inr three ↦ omega (arith, three) ] ]
+
+place_for-below : (sizes : Sizes) (pairs : List Pair) (key : List ℕ) → All (IsPlaceOf sizes) pairs → place_for pairs key < length (order_of key sizes.groups)
+place_for-below sizes pairs key all = by (find (is_of key) pairs) refl
+  where by : (found : Option Pair) → find (is_of key) pairs ≡ found → place_for pairs key < length (order_of key sizes.groups)
+        by None none = rw none (order_of-some key sizes.groups)
+        by (Some pair) some =
+            let both = find-All (IsPlaceOf sizes) (is_of key) pairs pair all some in
+            let same : pair.0 ≡ key = ? in
+            let P : List ℕ → Type 0 = λ k. pair.1 < length (order_of k sizes.groups) in
+            rw some (subst P same both.1)
+
+with_place-all : (sizes : Sizes) (pairs : List Pair) (key : List ℕ) (place : ℕ) → All (IsPlaceOf sizes) pairs → place < length (order_of key sizes.groups) → All (IsPlaceOf sizes) (with_place pairs key place)
+with_place-all sizes pairs key place all below =
+    All-take (IsPlaceOf sizes) 16 ((key, place) ∷ filter (λ pair. not (is_of key pair)) pairs)
+        (All-append (IsPlaceOf sizes) ((key, place) ∷ []) (filter (λ pair. not (is_of key pair)) pairs) (λ k d under. let first : k ≡ 0 = omega arith in rw first below)
+            (All-filter (λ pair. not (is_of key pair)) (IsPlaceOf sizes) pairs all))
+
+-- Inner programs as they begin.
+
+-- the call's object is one of the pool
+own_object-is : (client : Client) → HasObject client.shape client.key client.value client.class client.object → IsObject client.shape (own_object client)
+own_object-is client has = record { class = has.of_class.below; named = has.named }
+
+-- the call's slot is one of the index
+slot_of-below : (client : Client) → IsMember client.shape client.client client.stock client.remembered → client.place < length (order_of client.key client.shape.groups)
+    → slot_of client < 24 * client.shape.groups
+slot_of-below client member below = order_of-below client.key client.shape.groups (omega (arith, member.limits.groups)) client.place 0 below
+
+search_of-is : (client : Client) → IsMember client.shape client.client client.stock client.remembered → IsCall client.key client.value → IsView (view_of client)
+    → IsKeySearch (view_of client) client.key (search_of client)
+search_of-is client member call is =
+    of_search.key_search_of-is (view_of client) client.key (place_for client.remembered client.key) is call.key_len.0 (place_for-below client.shape client.remembered client.key member.places)
+
+length-padded_words : (bytes : List ℕ) → length (padded_words bytes) ≡ words_for (length bytes)
+length-padded_words bytes = length-map-range_with_len (word_from bytes) 0 (words_for (length bytes))
+
+-- the words of a body stand in an object with room for the key and the value
+body_of-room : (kind : Kind) (key value : List ℕ) (link : Link) (class : ℕ) → class < CLASSES → words_of (length key) (length value) ≤ room_of class
+    → (i : ℕ) → i < length (body_of kind key value link) → (slice_index_or (body_of kind key value link) i (0, 0)).0 < room_of class
+body_of-room kind key value link class below room i within = ?
