@@ -91,7 +91,8 @@ pub record IsFoundAt (view : Viewed) (key : List ℕ) (word value_len : ℕ) : T
   pub named : object_in view.shape word ≡ Some object
   pub room : words_of (length key) value_len ≤ room_of object.class
 
-passed-never : (search : KeySearch) (slot word value_len : ℕ) (kind : Kind) → (passed search).told ≡ At slot word kind value_len → ⊥
+-- a slot that is passed over tells nothing of an object
+pub passed-never : (search : KeySearch) (slot word value_len : ℕ) (kind : Kind) → (passed search).told ≡ At slot word kind value_len → ⊥
 passed-never search slot word value_len kind tells = by (nat_lt (search.place + 1) (length search.order)) refl
   where by : (t : Bool) → nat_lt (search.place + 1) (length search.order) ≡ t → ⊥
         by true more = let bad : Going ≡ At slot word kind value_len = sym (rw more refl) ∙ tells in absurd cc

@@ -1,6 +1,8 @@
 pub mod BitChangeLemmas
 pub mod ChoosingLemmas
 pub mod ClientLemmas
+pub mod ClientRowLemmas
+pub mod ClientTurnLemmas
 pub mod KeySearchLemmas
 pub mod KeyTestLemmas
 pub mod ObjectNamesLemmas

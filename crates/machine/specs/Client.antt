@@ -182,10 +182,10 @@ fetches client word value_len =
     then ends (record client { fetched = [] }) outcome.Value
     else goes_to client (Fetch (value_read_of (view_of client) (pointer_in word) (length client.key) value_len))
 
--- a value was found: a get reads it, and a delete chooses an object for its tombstone
+-- a value was found: a get reads it, and a delete, which has no value, chooses an object for its tombstone
 abbrev pub on_value : Operation → Client → ℕ → ℕ → Turn Client Step
 on_value Get client word value_len = fetches client word value_len
-on_value operation client word value_len = chooses_for client 0
+on_value operation client word value_len = chooses_for client (length client.value)
 
 abbrev pub on_kind : Kind → Client → ℕ → ℕ → Turn Client Step
 on_kind Value client word value_len = on_value client.operation client word value_len
