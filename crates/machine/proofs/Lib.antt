@@ -3,6 +3,7 @@ pub mod ChoosingLemmas
 pub mod ClientLemmas
 pub mod ClientRowLemmas
 pub mod ClientTurnLemmas
+pub mod ExampleLemmas
 pub mod KeySearchLemmas
 pub mod KeyTestLemmas
 pub mod ObjectNamesLemmas
@@ -11,4 +12,5 @@ pub mod ResolutionLemmas
 pub mod SlotWriteLemmas
 pub mod StockLemmas
 pub mod ValueReadLemmas
+pub mod ViewLemmas
 pub mod WordsWriteLemmas

@@ -2,6 +2,7 @@ pub mod BitChange
 pub mod Choosing
 pub mod Client
 pub mod EpochRead
+pub mod Examples
 pub mod KeySearch
 pub mod KeyTest
 pub mod ObjectNames

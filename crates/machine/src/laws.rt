@@ -1,17 +1,35 @@
 //! What holds of the definitions: each function does nothing, and its clause is the law.
 
-ghost use Rattle.std.specs.Prelude.{◌≡◌, ℕ};
+ghost use Rattle.std.specs.Prelude.{◌≡◌, ◌≤◌, ℕ, List, length};
+ghost use Rattle.machine.specs.Client.{after, invoked, next};
+ghost use Rattle.machine.specs.Examples.{first_answers, first_put, first_verbs, verbs_of};
 ghost use Rattle.machine.specs.Places.{IsInPool};
-ghost use Rattle.machine.specs.SlotWrite as slots;
-ghost use Rattle.machine.specs.SlotWrite.{IsSlotWrite, SlotWrite};
-ghost use Rattle.region_view.specs.Placed.{Viewed};
+ghost use Rattle.machine.specs.Stage.{Client, Operation, first_client};
+ghost use Rattle.machine.specs.Standing.{IsClient};
+ghost use Rattle.object_form.specs.Class.{IsKeyLength};
+ghost use Rattle.object_form.specs.declared.classes.TheConstants.{LONGEST};
+ghost use Rattle.region_view.specs.Sizes.{IsWithinLimits, Sizes};
 ghost use Rattle.verb_words.specs.Verb.{place_of};
 ghost use Rattle.verb_words.specs.declared.verbs.Answer.{Answer};
 
-/// A slot write stays one, whatever is answered, and its verbs go to places of the pool.
-pub fn slot_writes_stay_in_the_pool()
-    ensures kept { (view : Viewed) (write : SlotWrite) (answer : Answer) → IsSlotWrite view write
-        → IsSlotWrite view (slots.turn write answer).state }
-    ensures inside { (view : Viewed) (write : SlotWrite) → IsSlotWrite view write
-        → IsInPool view.shape (place_of (slots.next write)) }
+/// A client stands well at its beginning, when it makes a call whose key and value have lengths
+/// that are taken, and after every answer to its verb, whatever word is answered.
+pub fn clients_stand_well()
+    ensures begins { (sizes : Sizes) (number : ℕ) → IsWithinLimits sizes
+        → 1 ≤ number → number ≤ sizes.clients → IsClient (first_client number sizes) }
+    ensures calls { (client : Client) (operation : Operation) (key value : List ℕ)
+        → IsClient client → IsKeyLength (length key) → length value ≤ LONGEST
+        → IsClient (invoked client operation key value) }
+    ensures goes_on { (client : Client) (answer : Answer)
+        → IsClient client → IsClient (after client answer) }
+{}
+
+/// Each verb of a client that stands well goes to a place of its pool.
+pub fn verbs_go_to_places_of_the_pool()
+    ensures { (client : Client) → IsClient client → IsInPool client.shape (place_of (next client)) }
+{}
+
+/// The first put of a small pool takes 18 verbs, and these are they.
+pub fn a_first_put_takes_18_verbs()
+    ensures { verbs_of first_put first_answers ≡ first_verbs }
 {}
