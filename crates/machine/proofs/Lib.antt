@@ -1,4 +1,5 @@
 pub mod BitChangeLemmas
+pub mod ChoosingLemmas
 pub mod KeySearchLemmas
 pub mod KeyTestLemmas
 pub mod ObjectNamesLemmas

@@ -10,6 +10,7 @@ pub mod Remembered
 pub mod Resolution
 pub mod SlotWrite
 pub mod Stage
+pub mod Standing
 pub mod Stock
 pub mod Turn
 pub mod ValueRead
