@@ -1,5 +1,5 @@
 -- The joining of a lost node that stands outside the mask: its status word is set live while the epoch is open.
-use Rattle.std.specs.Prelude.{ℕ}
+use Rattle.std.specs.Prelude.{ℕ, ◌≤◌}
 use Rattle.std.specs.Option.{option_map_or}
 use Rattle.machine.specs.declared.joining.Joined.{Joined}
 use Rattle.machine.specs.declared.joining.Joined.TheVariants as joined
@@ -7,7 +7,7 @@ use Rattle.machine.specs.EpochRead.{open_mask}
 use Rattle.machine.specs.Places.{control}
 use Rattle.machine.specs.Turn.{Turn}
 use Rattle.region_view.specs.Control.{EpochWord, Status}
-use Rattle.region_view.specs.Sizes.{Sizes}
+use Rattle.region_view.specs.Sizes.{IsWithinLimits, Sizes}
 use Rattle.verb_words.specs.declared.verbs.Answer.{Answer}
 use Rattle.verb_words.specs.declared.verbs.Answer.TheVariants.{Word, Done, Lost}
 use Rattle.verb_words.specs.declared.verbs.Verb.{Verb}
@@ -51,3 +51,8 @@ turn_at phase joining answer = tells joining joined.Going
 
 abbrev pub turn : Joining → Answer → Turn Joining Joined
 turn joining answer = turn_at joining.phase joining answer
+
+-- what holds of each joining
+pub record IsJoining (joining : Joining) : Type 0 where
+  pub limits : IsWithinLimits joining.shape
+  pub node : (1 ≤ joining.node) × (joining.node ≤ joining.shape.nodes)

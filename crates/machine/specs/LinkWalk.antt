@@ -1,15 +1,18 @@
 -- The walk along a client's links of a class: from the head word to the object whose link is followed by no newer one.
-use Rattle.std.specs.Prelude.{ℕ, Bool, ◌&&◌, ◌==◌, nat_lt, if◌then◌else◌, Option, Some, None}
+use Rattle.std.specs.Prelude.{◌≡◌, ℕ, ◌<◌, ◌≤◌, Bool, ◌&&◌, ◌==◌, nat_lt, if◌then◌else◌, Option, Some, None, IfSome}
 use Rattle.std.specs.Option.{option_and_then, option_map_or}
 use Rattle.machine.specs.declared.link_walk.Walked.{Walked}
 use Rattle.machine.specs.declared.link_walk.Walked.TheVariants.{Going, End, Refused}
-use Rattle.machine.specs.ObjectNames.{names_object}
+use Rattle.machine.specs.EpochRead.{IsView}
+use Rattle.machine.specs.ObjectNames.{IsObject, names_object}
 use Rattle.machine.specs.Places.{control, object_word, primary_place}
 use Rattle.machine.specs.Turn.{Turn}
+use Rattle.object_form.specs.declared.classes.TheConstants.{CLASSES}
 use Rattle.object_form.specs.declared.links.Link.{Link}
 use Rattle.object_form.specs.Link.{link_in}
 use Rattle.region_view.specs.Control.{Head}
 use Rattle.region_view.specs.Placed.{Viewed}
+use Rattle.region_view.specs.Sizes.{Sizes}
 use Rattle.verb_words.specs.declared.verbs.Answer.{Answer}
 use Rattle.verb_words.specs.declared.verbs.Answer.TheVariants.{Word, Done, Lost}
 use Rattle.verb_words.specs.declared.verbs.Verb.{Verb}
@@ -83,3 +86,27 @@ abbrev pub turn : LinkWalk → Answer → Turn LinkWalk Walked
 turn walk (Word found) = turn_at walk.phase walk found
 turn walk Done = record { state = walk; told = Going }
 turn walk Lost = tells walk (Refused (place_of (next walk)).node)
+
+-- a pointer to an object of a class
+abbrev pub IsPointer : Sizes → ℕ → ℕ → Type 0
+IsPointer sizes class pointer = IsObject sizes (record { pointer = pointer; class = class })
+
+abbrev pub IsLast : Sizes → ℕ → Option (ℕ × ℕ) → Type 0
+IsLast sizes class last = IfSome last (λ found. IsPointer sizes class found.0)
+
+abbrev pub IsReserve : Sizes → ℕ → Option ℕ → Type 0
+IsReserve sizes class reserve = IfSome reserve (IsPointer sizes class)
+
+-- each object that is read is one of the class
+abbrev pub IsAt : Phase → Sizes → ℕ → Type 0
+IsAt AtHead sizes class = Unit {0}
+IsAt (AtObject pointer) sizes class = IsPointer sizes class pointer
+
+-- what holds of each walk under a view
+pub record IsLinkWalk (view : Viewed) (walk : LinkWalk) : Type 0 where
+  pub held : walk.view ≡ view
+  pub is_view : IsView walk.view
+  pub client : (1 ≤ walk.client) × (walk.client ≤ walk.view.shape.clients)
+  pub class : walk.class < CLASSES
+  pub last : IsLast walk.view.shape walk.class walk.last
+  pub phase : IsAt walk.phase walk.view.shape walk.class

@@ -1,6 +1,6 @@
 -- A settling: the epoch is sealed, the clients that are inside a call pause, the nodes that are live get the words of those
 -- of the old mask that are, and the next view is opened with all live nodes.
-use Rattle.std.specs.Prelude.{ℕ, ◌+◌, ◌-◌, ◌*◌, ◌/◌, ◌%◌, ◌^◌, Bool, false, ◌||◌, ◌==◌, nat_lt, if◌then◌else◌, List, length, slice_index_or}
+use Rattle.std.specs.Prelude.{◌≡◌, ℕ, ◌+◌, ◌-◌, ◌*◌, ◌/◌, ◌%◌, ◌^◌, ◌<◌, ◌≤◌, Bool, true, false, ◌||◌, ◌==◌, nat_lt, if◌then◌else◌, List, length, slice_index_or}
 use Rattle.std.specs.Option.{option_map_or}
 use Rattle.machine.specs.declared.settling.Settled.{Settled}
 use Rattle.machine.specs.declared.settling.Settled.TheVariants.{Going, Opened, NotYet}
@@ -11,7 +11,7 @@ use Rattle.machine.specs.Turn.{Turn}
 use Rattle.region_view.specs.Control.{EpochWord, Status, Begin, Pause}
 use Rattle.region_view.specs.Epoch.{word_of_epoch}
 use Rattle.region_view.specs.Placed.{Viewed, in_mask}
-use Rattle.region_view.specs.Sizes.{Sizes}
+use Rattle.region_view.specs.Sizes.{IsWithinLimits, Sizes}
 use Rattle.verb_words.specs.declared.verbs.Answer.{Answer}
 use Rattle.verb_words.specs.declared.verbs.Answer.TheVariants.{Word, Done, Lost}
 use Rattle.verb_words.specs.declared.verbs.Place.{Place}
@@ -187,3 +187,29 @@ turn_at phase settling answer = idles settling
 
 abbrev pub turn : Settling → Answer → Turn Settling Settled
 turn settling answer = turn_at settling.phase settling answer
+
+abbrev pub IsClient : Sizes → ℕ → Type 0
+IsClient sizes client = (1 ≤ client) × (client ≤ sizes.clients)
+
+-- what holds while words are copied: each region has a source, each source is in the next view, and the present word is one
+-- of those that are copied
+pub record IsCopying (settling : Settling) : Type 0 where
+  pub covers : leaves_none_bare settling.shape settling.sources ≡ true
+  pub within : (node : ℕ) → in_mask settling.sources node ≡ true → in_mask settling.mask node ≡ true
+  pub region : settling.region ≤ settling.shape.regions
+  pub offset : settling.offset < copied_words settling.shape settling.region
+
+-- what holds of a phase: the clients and nodes that are asked are those of the pool, the live nodes were asked, and a
+-- word is written to one of its places
+abbrev pub IsAt : Phase → Settling → Type 0
+IsAt (ReadBegin client) settling = IsClient settling.shape client
+IsAt (ReadPause client begin) settling = IsClient settling.shape client
+IsAt (ReadStatus node live) settling = (1 ≤ node) × (node ≤ settling.shape.nodes) × (live < 2 ^ (node - 1))
+IsAt ReadWord settling = IsCopying settling
+IsAt (WriteWord word target) settling = IsCopying settling × (target < length (targets settling))
+IsAt phase settling = Unit {0}
+
+-- what holds of each settling
+pub record IsSettling (settling : Settling) : Type 0 where
+  pub limits : IsWithinLimits settling.shape
+  pub phase : IsAt settling.phase settling
