@@ -6,11 +6,9 @@ use Rattle.block_alloc.specs.BlockWord.{block_in, word_of}
 use Rattle.machine.specs.declared.recovery.Recovering.{Recovering}
 use Rattle.machine.specs.declared.recovery.Recovering.TheVariants.{Going, Recovered, NotYet}
 use Rattle.machine.specs.Places.{control, primary_place, replica_count, written_place}
-use Rattle.machine.specs.RecoveryStage.{Recovery, Stage, WriteBegin, ReadBlock, Spread, Release}
+use Rattle.machine.specs.RecoveryStage.{Recovery, Stage, WriteBegin, ReadBlock, Spread, Release, view_of, word_at_block}
 use Rattle.machine.specs.Turn.{Turn}
 use Rattle.region_view.specs.Control.{Begin}
-use Rattle.region_view.specs.Layout.{NodeWord, BlockWord as block_word_of}
-use Rattle.region_view.specs.Placed.{Viewed}
 use Rattle.verb_words.specs.declared.verbs.Verb.{Verb}
 use Rattle.verb_words.specs.declared.verbs.Verb.TheVariants.{Read, Write, Swap}
 use Rattle.verb_words.specs.declared.verbs.Why.{Why}
@@ -29,17 +27,9 @@ gives_up recovery reason = record { state = recovery; told = NotYet reason }
 abbrev pub refused : Recovery → ℕ → Turn Recovery Recovering
 refused recovery node = gives_up recovery (why.Lost node)
 
-abbrev pub view_of : Recovery → Viewed
-view_of recovery = record { shape = recovery.shape; mask = recovery.mask }
-
 -- the begin word of a client after its last call
 abbrev pub even_begin : Recovery → ℕ
 even_begin recovery = 2 * recovery.number % 2 ^ 64
-
--- the block at the present position: regions and blocks rise
-abbrev pub word_at_block : Recovery → NodeWord
-word_at_block recovery =
-    block_word_of (1 + recovery.position / recovery.shape.blocks) (recovery.position % recovery.shape.blocks)
 
 abbrev pub write_begin : Recovery → Verb
 write_begin recovery = Write (control (Begin recovery.client)) (even_begin recovery)
@@ -54,18 +44,18 @@ abbrev pub release : Recovery → ℕ → Verb
 release recovery class =
     Swap (primary_place (view_of recovery) (word_at_block recovery)) (word_of (Owned recovery.client class)) (word_of (Released class))
 
--- the block at the position is read; after the last the client is recovered
-abbrev pub at_block : Recovery → Turn Recovery Recovering
-at_block recovery =
-    if nat_lt recovery.position (recovery.shape.regions * recovery.shape.blocks)
-    then goes_to recovery ReadBlock
+-- the block at a position is read; after the last the client is recovered
+abbrev pub block_from : Recovery → ℕ → Turn Recovery Recovering
+block_from recovery position =
+    if nat_lt position (recovery.shape.regions * recovery.shape.blocks)
+    then goes_to (record recovery { position = position }) ReadBlock
     else record { state = recovery; told = Recovered }
 
-abbrev pub next_block : Recovery → Turn Recovery Recovering
-next_block recovery = at_block (record recovery { position = recovery.position + 1 })
-
 abbrev pub first_block : Recovery → Turn Recovery Recovering
-first_block recovery = at_block (record recovery { position = 0 })
+first_block recovery = block_from recovery 0
+
+abbrev pub next_block : Recovery → Turn Recovery Recovering
+next_block recovery = block_from recovery (recovery.position + 1)
 
 -- the backups from this one on get the block's word, and then the primary
 abbrev pub spreads_from : Recovery → ℕ → ℕ → Turn Recovery Recovering

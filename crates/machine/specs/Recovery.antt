@@ -17,7 +17,7 @@ use Rattle.machine.specs.declared.slot_write.Wrote.{Wrote}
 use Rattle.machine.specs.declared.slot_write.Wrote.TheVariants as wrote
 use Rattle.machine.specs.BitChange as bits
 use Rattle.machine.specs.BitChange.{BitChange, bit_change_of}
-use Rattle.machine.specs.BlockRelease.{even_begin, first_block, gives_up, goes_to, idles, next_block, on_block_word, read_block, refused, release, spread, spreads_from, view_of, write_begin}
+use Rattle.machine.specs.BlockRelease.{even_begin, first_block, gives_up, goes_to, idles, next_block, on_block_word, read_block, refused, release, spread, spreads_from, write_begin}
 use Rattle.machine.specs.EpochRead.{open_mask}
 use Rattle.machine.specs.KeySearch as search
 use Rattle.machine.specs.KeySearch.{KeySearch, key_search_of}
@@ -25,7 +25,7 @@ use Rattle.machine.specs.LinkWalk as walk
 use Rattle.machine.specs.LinkWalk.{LinkWalk, link_walk_of}
 use Rattle.machine.specs.ObjectNames.{Object, object_in, pointer_in, word_for}
 use Rattle.machine.specs.Places.{control, object_word, primary_place}
-use Rattle.machine.specs.RecoveryStage.{ClassEnd, Recovery, Stage, ReadEpoch, ReadBegin, Walk, Restock, ReadMeta, ReadLog, Find, ReadVersion, WriteSlot, Resolve, Erase, Free, WriteBegin, ReadBlock, Spread, Release}
+use Rattle.machine.specs.RecoveryStage.{ClassEnd, Recovery, Stage, ReadEpoch, ReadBegin, Walk, Restock, ReadMeta, ReadLog, Find, ReadVersion, WriteSlot, Resolve, Erase, Free, WriteBegin, ReadBlock, Spread, Release, view_of}
 use Rattle.machine.specs.Resolution as resolution
 use Rattle.machine.specs.Resolution.{Resolution, version_walk_of}
 use Rattle.machine.specs.SlotWrite as slots
