@@ -1,10 +1,17 @@
 pub mod BitChangeLemmas
+pub mod BlockReleaseKept
 pub mod ChoosingLemmas
+pub mod CopyingLemmas
+pub mod JoiningKept
 pub mod KeySearchLemmas
+pub mod KeySearchSlots
 pub mod KeyTestLemmas
+pub mod LinkWalkKept
 pub mod ObjectNamesLemmas
 pub mod PlacesLemmas
+pub mod RecoveryKept
 pub mod ResolutionLemmas
+pub mod SettlingKept
 pub mod SlotWriteLemmas
 pub mod StockLemmas
 pub mod ValueReadLemmas

@@ -10,6 +10,7 @@ pub mod key_search;
 pub mod key_test;
 pub mod laws;
 pub mod link_walk;
+pub mod master_laws;
 pub mod object_write;
 pub mod recovery;
 pub mod resolution;
