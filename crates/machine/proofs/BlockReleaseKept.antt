@@ -1,5 +1,5 @@
 -- While it releases blocks a recovery stays one, and its verbs go to places of the pool.
-use Rattle.std.proofs.Common.{◌≡◌, ℕ, ◌+◌, ◌*◌, ◌/◌, ◌%◌, ◌<◌, ◌≤◌, ◌==◌, Bool, true, false, Option, Some, None, refl, sym, ap, subst, ◌∙◌, arith}
+use Rattle.std.proofs.Common.{◌≡◌, ℕ, ◌+◌, ◌*◌, ◌/◌, ◌%◌, ◌<◌, ◌≤◌, ◌==◌, Bool, true, false, Option, Some, None, refl, arith}
 use Rattle.std.specs.Prelude.{nat_lt}
 use Rattle.std.proofs.Math.Nat.{div-lt_iff_lt-mul, mod-lt}
 use Rattle.std.proofs.lemmas.Bool.Decides.{nat_tests}
@@ -7,11 +7,9 @@ use Rattle.block_alloc.proofs.BlockWordLemmas.{block_in-gives}
 use Rattle.block_alloc.specs.declared.BlockWord.{BlockWord}
 use Rattle.block_alloc.specs.declared.BlockWord.TheVariants.{Unused, Owned, Released}
 use Rattle.block_alloc.specs.BlockWord.{block_in}
-use Rattle.machine.specs.declared.recovery.Recovering.{Recovering}
 use Rattle.machine.specs.BlockRelease.{block_from, first_block, goes_to, next_block, on_block, on_block_word, read_block, release, spread, spreads_from, write_begin}
 use Rattle.machine.specs.Places.{IsInPool, replica_count}
-use Rattle.machine.specs.RecoveryStage.{HasBlock, HasView, IsAt, IsRecovery, Recovery, Stage, ReadBlock, Spread, Release, view_of, word_at_block}
-use Rattle.machine.specs.Turn.{Turn}
+use Rattle.machine.specs.RecoveryStage.{HasBlock, HasView, IsAt, IsRecovery, Recovery, Stage, Spread, Release, view_of, word_at_block}
 use Rattle.machine.proofs.PlacesLemmas.{control-inside, primary_place-inside, written_place-inside}
 use Rattle.object_form.specs.declared.classes.TheConstants.{CLASSES}
 use Rattle.region_view.specs.Control.{Begin}
@@ -32,9 +30,10 @@ goes_to-is recovery stage base at = record { limits = base.limits; client = base
 
 block_from-is : (recovery : Recovery) (position : ℕ) → IsRecovery recovery → HasView recovery → IsRecovery (block_from recovery position).state
 block_from-is recovery position is view = by (nat_lt position (recovery.shape.regions * recovery.shape.blocks)) refl
-  where by : (t : Bool) → nat_lt position (recovery.shape.regions * recovery.shape.blocks) ≡ t → IsRecovery (block_from recovery position).state
-        by true more = rw more (record { limits = is.limits; client = is.client; stage = (view, grind (arith, nat_tests)) })
-        by false last = rw last is
+  where
+    by : (t : Bool) → nat_lt position (recovery.shape.regions * recovery.shape.blocks) ≡ t → IsRecovery (block_from recovery position).state
+    by true more = rw more (record { limits = is.limits; client = is.client; stage = (view, grind (arith, nat_tests)) })
+    by false last = rw last is
 
 pub first_block-is : (recovery : Recovery) → IsRecovery recovery → HasView recovery → IsRecovery (first_block recovery).state
 first_block-is recovery is view = block_from-is recovery 0 is view
@@ -44,9 +43,10 @@ next_block-is recovery is view = block_from-is recovery (recovery.position + 1) 
 
 pub spreads_from-is : (recovery : Recovery) (class backup : ℕ) → IsBase recovery → HasBlock recovery → class < CLASSES → IsRecovery (spreads_from recovery class backup).state
 spreads_from-is recovery class backup base block below = by (nat_lt (backup + 1) (replica_count (view_of recovery) (word_at_block recovery))) refl
-  where by : (t : Bool) → nat_lt (backup + 1) (replica_count (view_of recovery) (word_at_block recovery)) ≡ t → IsRecovery (spreads_from recovery class backup).state
-        by true more = rw more (goes_to-is recovery (Spread class backup) base (block, below, grind (arith, nat_tests)))
-        by false last = rw last (goes_to-is recovery (Release class) base (block, below))
+  where
+    by : (t : Bool) → nat_lt (backup + 1) (replica_count (view_of recovery) (word_at_block recovery)) ≡ t → IsRecovery (spreads_from recovery class backup).state
+    by true more = rw more (goes_to-is recovery (Spread class backup) base (block, below, grind (arith, nat_tests)))
+    by false last = rw last (goes_to-is recovery (Release class) base (block, below))
 
 pub on_block_word-is : (recovery : Recovery) (found : ℕ) → IsRecovery recovery → HasBlock recovery → IsRecovery (on_block_word recovery found).state
 on_block_word-is recovery found is block = by (block_in found) refl
@@ -54,6 +54,7 @@ on_block_word-is recovery found is block = by (block_in found) refl
     of_client : (client class : ℕ) → class < CLASSES → (t : Bool) → (client == recovery.client) ≡ t → IsRecovery (on_block recovery (Some (Owned client class))).state
     of_client client class below true own = rw own (spreads_from-is recovery class 0 (base_of recovery is) block below)
     of_client client class below false other = rw other (next_block-is recovery is block.0)
+
     by : (b : Option BlockWord) → block_in found ≡ b → IsRecovery (on_block recovery b).state
     by None gives = next_block-is recovery is block.0
     by (Some Unused) gives = next_block-is recovery is block.0

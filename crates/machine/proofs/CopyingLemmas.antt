@@ -1,5 +1,5 @@
 -- The places that a settling reads and writes lie in the pool, and each source is a live node.
-use Rattle.std.proofs.Common.{◌≡◌, ℕ, zero, suc, ◌+◌, ◌-◌, ◌*◌, ◌/◌, ◌%◌, ◌^◌, ◌<◌, ◌≤◌, ◌==◌, inr, Bool, true, false, List, [], ◌++◌, length, map, filter, get_or, min, refl, sym, ap, subst, ◌∙◌, arith}
+use Rattle.std.proofs.Common.{◌≡◌, ℕ, zero, suc, ◌+◌, ◌-◌, ◌*◌, ◌<◌, ◌≤◌, ◌==◌, inr, true, false, List, length, min, refl, arith}
 use Rattle.std.specs.Int.{bit_at}
 use Rattle.std.specs.Prelude.{All, bit_and}
 use Rattle.std.proofs.lemmas.Bool.Decides.{nat_tests}
@@ -32,7 +32,7 @@ word_inside sizes zero offset limits within below = omega arith
 word_inside sizes (suc region) offset limits within below =
     let some = limits.blocks in
     let last : region_start sizes (suc region) + (8 * (15 + 64 * sizes.blocks) + 7) < node_words sizes
-        = position_of-inside sizes (UnitWord (suc region) (15 + 64 * sizes.blocks) 7) limits (omega arith, within, omega arith, omega arith, omega arith) in
+    = position_of-inside sizes (UnitWord (suc region) (15 + 64 * sizes.blocks) 7) limits (omega arith, within, omega arith, omega arith, omega arith) in
     let size = region_size-data sizes region in
     omega arith
 
@@ -56,8 +56,8 @@ places_inside view region offset limits within below =
     let nodes : List ℕ = replicas_of view region in
     let inside = word_inside view.shape region offset limits within below in
     All-map (IsInside view.shape) (λ node. (node, at)) nodes
-        (All-from_get_or (λ node. IsInside view.shape (node, at)) nodes 0
-            (λ i under. record { node = All-get_or (IsNode view.shape) nodes i 0 under (replicas_of-nodes view region limits); at = inside }))
+    (All-from_get_or (λ node. IsInside view.shape (node, at)) nodes 0
+    (λ i under. record { node = All-get_or (IsNode view.shape) nodes i 0 under (replicas_of-nodes view region limits); at = inside }))
 
 pub read_place_of-inside : (source : Viewed) (region offset : ℕ) → IsView source → region ≤ source.shape.regions → offset < copied_words source.shape region
     → IsInside source.shape (read_place_of source region offset)
@@ -76,9 +76,9 @@ pub written_places_of-inside : (source fresh : Viewed) (region offset : ℕ) →
 written_places_of-inside source fresh region offset limits within below =
     let read : ℕ = (read_place_of source region offset).0 in
     All-append (IsInside fresh.shape) (other_places fresh read region offset) (shadow_places fresh region offset)
-        (All-filter (is_on_other read) (IsInside fresh.shape) (word_places_of fresh region offset)
-            (places_inside fresh region offset limits within (copied-within fresh.shape region offset below)))
-        (shadows_inside fresh region offset limits below)
+    (All-filter (is_on_other read) (IsInside fresh.shape) (word_places_of fresh region offset)
+    (places_inside fresh region offset limits within (copied-within fresh.shape region offset below)))
+    (shadows_inside fresh region offset limits below)
 
 -- each source is a live node
 pub sources_of-within : (old live node : ℕ) → in_mask (sources_of old live) node ≡ true → in_mask live node ≡ true

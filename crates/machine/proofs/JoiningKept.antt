@@ -19,9 +19,10 @@ at_phase joining phase is = record { limits = is.limits; node = is.node }
 
 on_epoch-is : (joining : Joining) (found : ℕ) → IsJoining joining → IsJoining (on_epoch joining found).state
 on_epoch-is joining found is = by (open_mask joining.shape found) refl
-  where by : (mask : Option ℕ) → open_mask joining.shape found ≡ mask → IsJoining (on_epoch joining found).state
-        by None at = rw at is
-        by (Some mask) at = rw at (at_phase joining Admit is)
+  where
+    by : (mask : Option ℕ) → open_mask joining.shape found ≡ mask → IsJoining (on_epoch joining found).state
+    by None at = rw at is
+    by (Some mask) at = rw at (at_phase joining Admit is)
 
 turn_at-is : (phase : Phase) (joining : Joining) (answer : Answer) → IsJoining joining → IsJoining (turn_at phase joining answer).state
 turn_at-is ReadEpoch joining (Word found) is = on_epoch-is joining found is

@@ -24,15 +24,17 @@ IsTold slots (Refused node) = Unit {0}
 
 passed-told : (search : KeySearch) (slots : ℕ) → IsTold slots (passed search).told
 passed-told search slots = by (nat_lt (search.place + 1) (length search.order)) refl
-  where by : (t : Bool) → nat_lt (search.place + 1) (length search.order) ≡ t → IsTold slots (passed search).told
-        by true more = rw more tt
-        by false last = rw last tt
+  where
+    by : (t : Bool) → nat_lt (search.place + 1) (length search.order) ≡ t → IsTold slots (passed search).told
+    by true more = rw more tt
+    by false last = rw last tt
 
 tests-told : (search : KeySearch) (found slots : ℕ) → IsTold slots (tests search found).told
 tests-told search found slots = by (candidate_in search.view.shape search.key found) refl
-  where by : (object : Option Object) → candidate_in search.view.shape search.key found ≡ object → IsTold slots (tests search found).told
-        by None none = rw none (passed-told search slots)
-        by (Some object) some = rw some tt
+  where
+    by : (object : Option Object) → candidate_in search.view.shape search.key found ≡ object → IsTold slots (tests search found).told
+    by None none = rw none (passed-told search slots)
+    by (Some object) some = rw some tt
 
 on_test-told : (search : KeySearch) (word slots : ℕ) (key_test : KeyTest) (told : Tested) → slot_at search < slots → IsTold slots (on_test search word key_test told).told
 on_test-told search word slots key_test tested.Going below = tt
@@ -42,9 +44,10 @@ on_test-told search word slots key_test (tested.Refused node) below = tt
 
 turn_at-told : (search : KeySearch) (phase : Phase) (answer : Answer) (slots : ℕ) → slot_at search < slots → IsTold slots (turn_at phase search answer).told
 turn_at-told search AtSlot (Word found) slots below = by (found == 0) refl
-  where by : (t : Bool) → (found == 0) ≡ t → IsTold slots (turn_at AtSlot search (Word found)).told
-        by true empty = rw empty below
-        by false other = rw other (tests-told search found slots)
+  where
+    by : (t : Bool) → (found == 0) ≡ t → IsTold slots (turn_at AtSlot search (Word found)).told
+    by true empty = rw empty below
+    by false other = rw other (tests-told search found slots)
 turn_at-told search AtSlot Done slots below = tt
 turn_at-told search AtSlot Lost slots below = tt
 turn_at-told search (AtKey word key_test) answer slots below =

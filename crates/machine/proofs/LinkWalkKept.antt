@@ -1,10 +1,10 @@
 -- A walk along links stays one, its verbs go to places of the pool, and what it ends with are objects of its class.
-use Rattle.std.proofs.Common.{◌≡◌, ℕ, ◌+◌, ◌<◌, ◌≤◌, Bool, true, false, Option, Some, None, refl, sym, subst, arith}
+use Rattle.std.proofs.Common.{◌≡◌, ℕ, ◌<◌, ◌≤◌, Bool, true, false, Option, Some, None, refl, subst, arith}
 use Rattle.machine.specs.declared.link_walk.Walked.{Walked}
 use Rattle.machine.specs.declared.link_walk.Walked.TheVariants.{Going, End, Refused}
 use Rattle.machine.specs.EpochRead.{IsView}
 use Rattle.machine.specs.LinkWalk.{IsAt, IsLast, IsLinkWalk, IsPointer, IsReserve, LinkWalk, Phase, AtHead, AtObject, follows, link_walk_of, newer_link, next, reaches, tells, turn, turn_at, verb_at}
-use Rattle.machine.specs.ObjectNames.{Object, names_object}
+use Rattle.machine.specs.ObjectNames.{names_object}
 use Rattle.machine.specs.Places.{IsInPool, object_word, primary_place}
 use Rattle.machine.specs.Turn.{Turn}
 use Rattle.machine.proofs.ObjectNamesLemmas.{object_word-has}
@@ -46,23 +46,28 @@ in_view view walk P is holds = let Q : Viewed → Type 0 = λ v. P v.shape in su
 
 reaches-is : (view : Viewed) (walk : LinkWalk) (pointer : ℕ) → IsLinkWalk view walk → IsKept view walk (reaches walk pointer)
 reaches-is view walk pointer is = by (names_object walk.view.shape walk.class pointer) refl
-  where by : (t : Bool) → names_object walk.view.shape walk.class pointer ≡ t → IsKept view walk (reaches walk pointer)
-        by true named = rw named (record {
-          state = record {
-            held = is.held; is_view = is.is_view; client = is.client; class = is.class; last = is.last;
-            phase = record { class = is.class; named = named };
-          };
-          client = refl;
-          class = refl;
-          told = tt;
-        })
-        by false other = rw other (tells-is view walk (End walk.last None) is
-            (in_view view walk (λ sizes. IsLast sizes walk.class walk.last) is is.last, tt))
+  where
+    by : (t : Bool) → names_object walk.view.shape walk.class pointer ≡ t → IsKept view walk (reaches walk pointer)
+    by true named = rw named (record {
+      state = record {
+        held = is.held;
+        is_view = is.is_view;
+        client = is.client;
+        class = is.class;
+        last = is.last;
+        phase = record { class = is.class; named = named };
+      };
+      client = refl;
+      class = refl;
+      told = tt;
+    })
+    by false other = rw other (tells-is view walk (End walk.last None) is
+        (in_view view walk (λ sizes. IsLast sizes walk.class walk.last) is is.last, tt))
 
 follows-is : (view : Viewed) (walk : LinkWalk) (pointer : ℕ) (link : Link) → IsLinkWalk view walk → IsPointer walk.view.shape walk.class pointer → IsKept view walk (follows walk pointer link)
 follows-is view walk pointer link is here =
     let kept = reaches-is view (record walk { last = Some (pointer, link.call) }) link.next
-            (record { held = is.held; is_view = is.is_view; client = is.client; class = is.class; last = here; phase = is.phase }) in
+    (record { held = is.held; is_view = is.is_view; client = is.client; class = is.class; last = here; phase = is.phase }) in
     record { state = kept.state; client = kept.client; class = kept.class; told = kept.told }
 
 turn_at-is : (view : Viewed) (phase : Phase) (walk : LinkWalk) (found : ℕ) → walk.phase ≡ phase → IsLinkWalk view walk → IsKept view walk (turn_at phase walk found)
@@ -71,6 +76,7 @@ turn_at-is view (AtObject pointer) walk found at is = by (newer_link walk found)
   where
     here : IsPointer walk.view.shape walk.class pointer
     here = let P : Phase → Type 0 = λ p. IsAt p walk.view.shape walk.class in subst P at is.phase
+
     by : (link : Option Link) → newer_link walk found ≡ link → IsKept view walk (turn_at (AtObject pointer) walk found)
     by None says = rw says (tells-is view walk (End walk.last (Some pointer)) is
         (in_view view walk (λ sizes. IsLast sizes walk.class walk.last) is is.last, in_view view walk (λ sizes. IsPointer sizes walk.class pointer) is here))

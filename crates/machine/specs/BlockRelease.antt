@@ -1,12 +1,12 @@
 -- The end of a recovery: the client's begin word is written even, and each block that the client owns is released.
-use Rattle.std.specs.Prelude.{ℕ, ◌+◌, ◌*◌, ◌/◌, ◌%◌, ◌^◌, ◌==◌, nat_lt, if◌then◌else◌, Option, Some, None}
+use Rattle.std.specs.Prelude.{ℕ, ◌+◌, ◌*◌, ◌%◌, ◌^◌, ◌==◌, nat_lt, if◌then◌else◌, Option, Some, None}
 use Rattle.block_alloc.specs.declared.BlockWord.{BlockWord}
 use Rattle.block_alloc.specs.declared.BlockWord.TheVariants.{Unused, Owned, Released}
 use Rattle.block_alloc.specs.BlockWord.{block_in, word_of}
 use Rattle.machine.specs.declared.recovery.Recovering.{Recovering}
 use Rattle.machine.specs.declared.recovery.Recovering.TheVariants.{Going, Recovered, NotYet}
 use Rattle.machine.specs.Places.{control, primary_place, replica_count, written_place}
-use Rattle.machine.specs.RecoveryStage.{Recovery, Stage, WriteBegin, ReadBlock, Spread, Release, view_of, word_at_block}
+use Rattle.machine.specs.RecoveryStage.{Recovery, Stage, ReadBlock, Spread, Release, view_of, word_at_block}
 use Rattle.machine.specs.Turn.{Turn}
 use Rattle.region_view.specs.Control.{Begin}
 use Rattle.verb_words.specs.declared.verbs.Verb.{Verb}

@@ -9,7 +9,7 @@ use Rattle.machine.specs.Turn.{Turn}
 use Rattle.region_view.specs.Control.{EpochWord, Status}
 use Rattle.region_view.specs.Sizes.{IsWithinLimits, Sizes}
 use Rattle.verb_words.specs.declared.verbs.Answer.{Answer}
-use Rattle.verb_words.specs.declared.verbs.Answer.TheVariants.{Word, Done, Lost}
+use Rattle.verb_words.specs.declared.verbs.Answer.TheVariants.{Word, Done}
 use Rattle.verb_words.specs.declared.verbs.Verb.{Verb}
 use Rattle.verb_words.specs.declared.verbs.Verb.TheVariants.{Read, Write}
 use Rattle.verb_words.specs.declared.verbs.Why.TheVariants.{Sealed}

@@ -1,6 +1,6 @@
 -- The recovery of a stopped client: its reserves are put back in stock, its last call is settled by what its object was
 -- logged to replace, and its blocks are released.
-use Rattle.std.specs.Prelude.{ℕ, ◌+◌, ◌*◌, ◌/◌, ◌%◌, ◌^◌, Bool, true, ◌==◌, nat_le, if◌then◌else◌, List, [], ◌∷◌, ◌++◌, length, take, drop, slice_index_or, Option, Some, None}
+use Rattle.std.specs.Prelude.{ℕ, ◌+◌, ◌/◌, ◌%◌, ◌^◌, Bool, true, ◌==◌, nat_le, if◌then◌else◌, List, [], ◌∷◌, ◌++◌, length, take, drop, slice_index_or, Option, Some, None}
 use Rattle.std.specs.Option.{option_and_then, option_map_or}
 use Rattle.machine.specs.declared.bit_change.Changed.{Changed}
 use Rattle.machine.specs.declared.bit_change.Changed.TheVariants as changed
@@ -17,7 +17,7 @@ use Rattle.machine.specs.declared.slot_write.Wrote.{Wrote}
 use Rattle.machine.specs.declared.slot_write.Wrote.TheVariants as wrote
 use Rattle.machine.specs.BitChange as bits
 use Rattle.machine.specs.BitChange.{BitChange, bit_change_of}
-use Rattle.machine.specs.BlockRelease.{even_begin, first_block, gives_up, goes_to, idles, next_block, on_block_word, read_block, refused, release, spread, spreads_from, write_begin}
+use Rattle.machine.specs.BlockRelease.{first_block, gives_up, goes_to, idles, next_block, on_block_word, read_block, refused, release, spread, spreads_from, write_begin}
 use Rattle.machine.specs.EpochRead.{open_mask}
 use Rattle.machine.specs.KeySearch as search
 use Rattle.machine.specs.KeySearch.{KeySearch, key_search_of}

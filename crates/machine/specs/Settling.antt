@@ -1,6 +1,6 @@
 -- A settling: the epoch is sealed, the clients that are inside a call pause, the nodes that are live get the words of those
 -- of the old mask that are, and the next view is opened with all live nodes.
-use Rattle.std.specs.Prelude.{◌≡◌, ℕ, ◌+◌, ◌-◌, ◌*◌, ◌/◌, ◌%◌, ◌^◌, ◌<◌, ◌≤◌, Bool, true, false, ◌||◌, ◌==◌, nat_lt, if◌then◌else◌, List, length, slice_index_or}
+use Rattle.std.specs.Prelude.{◌≡◌, ℕ, ◌+◌, ◌-◌, ◌/◌, ◌%◌, ◌^◌, ◌<◌, ◌≤◌, Bool, true, false, ◌||◌, ◌==◌, nat_lt, if◌then◌else◌, List, length, slice_index_or}
 use Rattle.std.specs.Option.{option_map_or}
 use Rattle.machine.specs.declared.settling.Settled.{Settled}
 use Rattle.machine.specs.declared.settling.Settled.TheVariants.{Going, Opened, NotYet}
