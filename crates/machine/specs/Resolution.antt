@@ -41,6 +41,11 @@ abbrev pub resolution_of : Viewed → ℕ → ℕ → ℕ → ℕ → List ℕ �
 resolution_of view slot expect fresh version key =
     record { view = view; slot = slot; expect = expect; fresh = fresh; version = version; key = key; phase = AtSlot }
 
+-- the walk back alone, from an object that the slot is known to name
+abbrev pub version_walk_of : Viewed → ℕ → ℕ → ℕ → ℕ → List ℕ → Object → Resolution
+version_walk_of view slot expect fresh version key object =
+    record (resolution_of view slot expect fresh version key) { phase = AtVersion object None }
+
 abbrev pub verb_at : Phase → Resolution → Verb
 verb_at AtSlot resolution = Read (slot_primary resolution.view resolution.slot)
 verb_at (AtKey key_test) resolution = test.next key_test
