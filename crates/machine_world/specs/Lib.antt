@@ -1,0 +1,7 @@
+pub mod Calls
+pub mod Events
+pub mod Ledger
+pub mod Readings
+pub mod Refusals
+pub mod Runs
+pub mod World

@@ -1,0 +1,1 @@
+//! What holds of the definitions: each function does nothing, and its clause is the law.
