@@ -115,13 +115,13 @@ pub own_object-is : (client : Client) → HasObject client.shape client.key clie
 own_object-is client has = record { class = has.of_class.below; named = has.named }
 
 -- the call's slot is one of the index
-pub slot_of-below : (client : Client) → IsMember client.shape client.client client.stock client.remembered → client.place < length (order_of client.key client.shape.groups)
+pub slot_of-below : (s : Sizes) (n : ℕ) (client : Client) → IsMember s n client.shape client.client client.stock client.remembered → client.place < length (order_of client.key client.shape.groups)
     → slot_of client < 24 * client.shape.groups
-slot_of-below client member below = order_of-below client.key client.shape.groups (omega (arith, member.limits.groups)) client.place 0 below
+slot_of-below s n client member below = order_of-below client.key client.shape.groups (omega (arith, member.limits.groups)) client.place 0 below
 
-pub search_of-is : (client : Client) → IsMember client.shape client.client client.stock client.remembered → IsCall client.key client.value → IsView (view_of client)
+pub search_of-is : (s : Sizes) (n : ℕ) (client : Client) → IsMember s n client.shape client.client client.stock client.remembered → IsCall client.key client.value → IsView (view_of client)
     → IsKeySearch (view_of client) client.key (search_of client)
-search_of-is client member call is =
+search_of-is s n client member call is =
     of_search.key_search_of-is (view_of client) client.key (place_for client.remembered client.key) is call.key_len.0 (place_for-below client.shape client.remembered client.key member.places)
 
 length-padded_words : (bytes : List ℕ) → length (padded_words bytes) ≡ words_for (length bytes)

@@ -23,8 +23,10 @@ use Rattle.slot_order.specs.Slots.{order_of}
 abbrev pub IsPlaceOf : Sizes → Pair → Type 0
 IsPlaceOf sizes pair = pair.1 < length (order_of pair.0 sizes.groups)
 
--- the client is one of its pool, with a stock of its own and places that it remembers
-pub record IsMember (sizes : Sizes) (number : ℕ) (stock : Stock) (remembered : List Pair) : Type 0 where
+-- the client of a number is one of its pool, with a stock of its own and places that it remembers
+pub record IsMember (shape : Sizes) (own : ℕ) (sizes : Sizes) (number : ℕ) (stock : Stock) (remembered : List Pair) : Type 0 where
+  pub same_shape : sizes ≡ shape
+  pub same_number : number ≡ own
   pub limits : IsWithinLimits sizes
   pub least : 1 ≤ number
   pub most : number ≤ sizes.clients
@@ -95,8 +97,8 @@ abbrev pub HasCall : Stage → Client → Type 0
 HasCall Idle client = Unit {0}
 HasCall stage client = IsCall client.key client.value
 
--- what holds of every client
-pub record IsClient (client : Client) : Type 0 where
-  pub member : IsMember client.shape client.client client.stock client.remembered
+-- what holds of every client of a pool of these sizes, with this number
+pub record IsClient (sizes : Sizes) (number : ℕ) (client : Client) : Type 0 where
+  pub member : IsMember sizes number client.shape client.client client.stock client.remembered
   pub call : HasCall client.stage client
   pub stage : IsAt client.stage client

@@ -16,17 +16,19 @@ ghost use Rattle.verb_words.specs.declared.verbs.Answer.{Answer};
 /// that are taken, and after every answer to its verb, whatever word is answered.
 pub fn clients_stand_well()
     ensures begins { (sizes : Sizes) (number : ℕ) → IsWithinLimits sizes
-        → 1 ≤ number → number ≤ sizes.clients → IsClient (first_client number sizes) }
-    ensures calls { (client : Client) (operation : Operation) (key value : List ℕ)
-        → IsClient client → IsKeyLength (length key) → length value ≤ LONGEST
-        → IsClient (invoked client operation key value) }
-    ensures goes_on { (client : Client) (answer : Answer)
-        → IsClient client → IsClient (after client answer) }
+        → 1 ≤ number → number ≤ sizes.clients → IsClient sizes number (first_client number sizes) }
+    ensures calls { (sizes : Sizes) (number : ℕ) (client : Client) (operation : Operation)
+        (key value : List ℕ) → IsClient sizes number client
+        → IsKeyLength (length key) → length value ≤ LONGEST
+        → IsClient sizes number (invoked client operation key value) }
+    ensures goes_on { (sizes : Sizes) (number : ℕ) (client : Client) (answer : Answer)
+        → IsClient sizes number client → IsClient sizes number (after client answer) }
 {}
 
 /// Each verb of a client that stands well goes to a place of its pool.
 pub fn verbs_go_to_places_of_the_pool()
-    ensures { (client : Client) → IsClient client → IsInPool client.shape (place_of (next client)) }
+    ensures { (sizes : Sizes) (number : ℕ) (client : Client)
+        → IsClient sizes number client → IsInPool sizes (place_of (next client)) }
 {}
 
 /// The first put of a small pool takes 18 verbs, and these are they.
