@@ -234,6 +234,11 @@ occurs world (event.Fill node word) = fills world node word
 occurs world (event.Choose task) = chooses world task
 occurs world event.Work = works world
 
+-- a client's verb as an event, as it comes or late
+abbrev pub verb_event : Bool → ℕ → Event
+verb_event false client = event.Step client
+verb_event true client = event.Late client
+
 -- an event that is refused leaves the world as it was
 abbrev pub happens : World → Event → World
 happens world event = option_map_or (λ reason. world) (refusal world event) (occurs world event)

@@ -1,4 +1,5 @@
 pub mod Calls
+pub mod Claims
 pub mod Events
 pub mod Ledger
 pub mod Readings

@@ -1,1 +1,87 @@
 //! What holds of the definitions: each function does nothing, and its clause is the law.
+
+ghost use Rattle.std.specs.Prelude.{◌≡◌, ◌≢◌, ◌+◌, ◌<◌, ℕ, Bool, List, [], ◌∷◌, ◌++◌, length, map, None, Some};
+ghost use Rattle.machine.specs.Client.{after, told};
+ghost use Rattle.machine_world.specs.Events.{answer_of, chooses, fills, happens, invokes, loses, moments_of, acts, registers, stops, verb_event, verb_of, works};
+ghost use Rattle.machine_world.specs.Refusals.{refusal};
+ghost use Rattle.machine_world.specs.Runs.{run, verbs_at, verbs_taken};
+ghost use Rattle.machine_world.specs.World.{World, client_at, first_world};
+ghost use Rattle.machine_world.specs.declared.events.Event.{Event};
+ghost use Rattle.machine_world.specs.declared.events.Event.TheVariants as event;
+ghost use Rattle.machine_world.specs.declared.events.Task.{Task};
+ghost use Rattle.machine_world.specs.declared.outcomes.Refused.{Refused};
+ghost use Rattle.map_model.specs.declared.calls.Call.{Call};
+ghost use Rattle.region_view.specs.Sizes.{Sizes};
+ghost use Rattle.verb_words.specs.Verb.{place_of};
+ghost use Rattle.verb_words.specs.Words.{word_at};
+ghost use Rattle.verb_words.specs.declared.verbs.Place.{Place};
+
+/// An event that is refused leaves the world as it was.
+pub fn refused_events_change_nothing()
+    ensures { (world : World) (event : Event) (reason : Refused)
+        → refusal world event ≡ Some reason → happens world event ≡ world }
+{}
+
+/// Each kind of event that is not refused makes of the world just this.
+pub fn events_make_the_world()
+    ensures register { (world : World) → refusal world event.Register ≡ None
+        → happens world event.Register ≡ registers world }
+    ensures invoke { (world : World) (client : ℕ) (call : Call)
+        → refusal world (event.Invoke client call) ≡ None
+        → happens world (event.Invoke client call) ≡ invokes world client call }
+    ensures verb { (late : Bool) (world : World) (client : ℕ)
+        → refusal world (verb_event late client) ≡ None
+        → happens world (verb_event late client) ≡ acts late world client }
+    ensures stop { (world : World) (client : ℕ) → refusal world (event.Stop client) ≡ None
+        → happens world (event.Stop client) ≡ stops world client }
+    ensures lose { (world : World) (node : ℕ) → refusal world (event.Lose node) ≡ None
+        → happens world (event.Lose node) ≡ loses world node }
+    ensures fill { (world : World) (node word : ℕ) → refusal world (event.Fill node word) ≡ None
+        → happens world (event.Fill node word) ≡ fills world node word }
+    ensures choose { (world : World) (task : Task) → refusal world (event.Choose task) ≡ None
+        → happens world (event.Choose task) ≡ chooses world task }
+    ensures work { (world : World) → refusal world event.Work ≡ None
+        → happens world event.Work ≡ works world }
+{}
+
+/// A client's verb, as it comes or late, changes no word but its own, no client but its own, the
+/// trace by that client's moments alone, and not who is stopped; what it makes of the client, and
+/// these moments, depend on the client as it was and on the answer.
+pub fn a_clients_verb_stands_apart()
+    ensures words { (late : Bool) (world : World) (client : ℕ) (place : Place)
+        → place ≢ place_of (verb_of world client)
+        → word_at (acts late world client).nodes place ≡ word_at world.nodes place }
+    ensures others { (late : Bool) (world : World) (client other : ℕ) → other ≢ client
+        → client_at (acts late world client) other ≡ client_at world other }
+    ensures own { (late : Bool) (world : World) (client : ℕ) → client < length world.clients
+        → client_at (acts late world client) client
+        ≡ after (client_at world client) (answer_of late world client) }
+    ensures trace { (late : Bool) (world : World) (client : ℕ)
+        → (acts late world client).trace ≡ world.trace
+        ++ moments_of (client_at world client) (told (client_at world client) (answer_of late world client)) }
+    ensures stopped { (late : Bool) (world : World) (client : ℕ)
+        → (acts late world client).stopped ≡ world.stopped }
+{}
+
+/// A verb of the master changes no client, not the trace, and not who is stopped.
+pub fn the_masters_verb_stands_apart()
+    ensures clients { (world : World) → (works world).clients ≡ world.clients }
+    ensures trace { (world : World) → (works world).trace ≡ world.trace }
+    ensures stopped { (world : World) → (works world).stopped ≡ world.stopped }
+{}
+
+/// No event changes how many words a node has.
+pub fn nodes_keep_their_sizes()
+    ensures { (world : World) (event : Event)
+        → map length (happens world event).nodes ≡ map length world.nodes }
+{}
+
+/// A run of one event more, and the verbs that a client has taken in it.
+pub fn runs_go_on()
+    ensures none { (sizes : Sizes) → run sizes [] ≡ first_world sizes }
+    ensures more { (sizes : Sizes) (events : List Event) (event : Event)
+        → run sizes (events ++ event ∷ []) ≡ happens (run sizes events) event }
+    ensures verbs { (sizes : Sizes) (client : ℕ) (events : List Event) (event : Event)
+        → verbs_taken sizes client (events ++ event ∷ [])
+        ≡ verbs_taken sizes client events + verbs_at (run sizes events) client event }
+{}
