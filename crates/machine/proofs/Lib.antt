@@ -13,6 +13,7 @@ pub mod KeyTestLemmas
 pub mod LinkWalkKept
 pub mod ObjectNamesLemmas
 pub mod PlacesLemmas
+pub mod RecoveryExampleLemmas
 pub mod RecoveryKept
 pub mod ResolutionLemmas
 pub mod SettlingKept
