@@ -1,5 +1,5 @@
 -- A search for a key stays one, and its verbs go to places of the pool.
-use Rattle.std.proofs.Common.{◌≡◌, ℕ, zero, suc, ◌+◌, ◌*◌, ◌<◌, ◌≤◌, ◌==◌, Bool, true, false, List, length, Option, Some, None, refl, sym, ap, subst, ◌∙◌, arith}
+use Rattle.std.proofs.Common.{◌≡◌, ℕ, zero, suc, ◌+◌, ◌*◌, ◌<◌, ◌≤◌, ◌==◌, inl, inr, Bool, true, false, List, length, Option, Some, None, refl, sym, ap, subst, ◌∙◌, arith}
 use Rattle.std.specs.Prelude.{nat_lt, slice_index}
 use Rattle.std.proofs.lemmas.Bool.Decides.{nat_tests}
 use Rattle.machine.specs.declared.key_search.Found.{Found}
@@ -19,11 +19,17 @@ use Rattle.machine.proofs.PlacesLemmas.{slot_primary-inside}
 use Rattle.object_form.specs.declared.metas.Kind.{Kind}
 use Rattle.object_form.specs.Class.{room_of, words_of}
 use Rattle.region_view.specs.Placed.{Viewed}
-use Rattle.slot_order.proofs.OrderLemmas.{order_of-below}
+use Rattle.slot_order.proofs.OrderLemmas.{length-order_of-cases, order_of-below}
 use Rattle.slot_order.specs.Slots.{order_of}
 use Rattle.verb_words.specs.declared.verbs.Answer.{Answer}
 use Rattle.verb_words.specs.declared.verbs.Answer.TheVariants.{Word, Done, Lost}
 use Rattle.verb_words.specs.Verb.{place_of}
+
+-- each key has a slot
+pub order_of-some : (key : List ℕ) (groups : ℕ) → 0 < length (order_of key groups)
+order_of-some key groups = elim (length-order_of-cases key groups) [
+    inl one ↦ omega (arith, one)
+  | inr more ↦ elim more [ inl two ↦ omega (arith, two) | inr three ↦ omega (arith, three) ] ]
 
 pub key_search_of-is : (view : Viewed) (key : List ℕ) (place : ℕ) → IsView view → 1 ≤ length key → place < length (order_of key view.shape.groups) → IsKeySearch view key (key_search_of view key place)
 key_search_of-is view key place is some below = record { held = refl; is_view = is; same = refl; some = some; order = refl; place = below; phase = tt }

@@ -21,4 +21,5 @@ pub mod SlotWriteLemmas
 pub mod StockLemmas
 pub mod ValueReadLemmas
 pub mod ViewLemmas
+pub mod WalkBackLemmas
 pub mod WordsWriteLemmas

@@ -10,6 +10,8 @@ ghost use Rattle.machine.specs.Places.{IsInPool};
 ghost use Rattle.machine.specs.Recovery as recoveries;
 ghost use Rattle.machine.specs.RecoveryExample.{end_of, of_first_client, recovery_answers, recovery_verbs, verbs_of};
 ghost use Rattle.machine.specs.RecoveryStage.{IsRecovery, Recovery, recovery_of};
+ghost use Rattle.machine.specs.Resolution as resolutions;
+ghost use Rattle.machine.specs.Resolution.{IsToldByWalk, IsWalk, Resolution};
 ghost use Rattle.machine.specs.Settling as settlings;
 ghost use Rattle.machine.specs.Settling.{IsSettling, Settling, settling_of};
 ghost use Rattle.machine.specs.declared.recovery.Recovering.{Recovering};
@@ -48,6 +50,15 @@ pub fn joinings_stand_well()
         → IsJoining joining → IsJoining (joinings.turn joining answer).state }
     ensures inside { (joining : Joining)
         → IsJoining joining → IsInPool joining.shape (place_of (joinings.next joining)) }
+{}
+
+/// A walk back along the versions of a slot reads versions and what objects replaced alone, and
+/// never tells that the slot is as it was expected or has another key.
+pub fn a_walk_back_tells_won_or_beaten()
+    ensures goes_on { (resolution : Resolution) (answer : Answer) → IsWalk resolution.phase
+        → IsWalk (resolutions.turn resolution answer).state.phase }
+    ensures tells { (resolution : Resolution) (answer : Answer) → IsWalk resolution.phase
+        → IsToldByWalk (resolutions.turn resolution answer).told }
 {}
 
 /// A word that is copied goes to its place on each other replica of the new mask, and a slot's word
