@@ -97,6 +97,7 @@ kept p (y ∷ ys) x has passes = at has.0 has.1 has.2 (λ rest. kept p ys x rest
     later : (t : Bool) → p y ≡ t → Contains (filter p ys) x → Contains (filter p (y ∷ ys)) x
     later true is rest = rw is (suc rest.0, omega (arith, rest.1), rest.2)
     later false is rest = rw is rest
+
     at : (k : ℕ) → k < length (y ∷ ys) → slice_index_or (y ∷ ys) k x ≡ x → (Contains ys x → Contains (filter p ys) x) → Contains (filter p (y ∷ ys)) x
     at zero below is rest = let first : p y ≡ true = ap p is ∙ passes in rw first (0, omega arith, is)
     at (suc k) below is rest = later (p y) refl (rest (k, omega arith, is))
@@ -108,7 +109,7 @@ written_places_of-others source fresh region offset place has other =
     let read : ℕ = (read_place_of source region offset).0 in
     let passes : is_on_other read place ≡ true = grind (arith, nat_tests) in
     Contains-append_left (other_places fresh read region offset) (shadow_places fresh region offset) place
-        (kept (is_on_other read) (word_places_of fresh region offset) place has passes)
+    (kept (is_on_other read) (word_places_of fresh region offset) place has passes)
 
 -- a slot's word goes to its shadows too
 pub written_places_of-shadows : (source fresh : Viewed) (slot : ℕ) (place : ℕ × ℕ) → Contains (word_places_of fresh 0 (24 * fresh.shape.groups + slot)) place
@@ -119,9 +120,10 @@ written_places_of-shadows source fresh slot place has =
 filtered-few : {X : Type 0} (p : X → Bool) (xs : List X) → length (filter p xs) ≤ length xs
 filtered-few p [] = omega arith
 filtered-few p (x ∷ xs) = by (p x) refl (filtered-few p xs)
-  where by : (t : Bool) → p x ≡ t → length (filter p xs) ≤ length xs → length (filter p (x ∷ xs)) ≤ length (x ∷ xs)
-        by true is rest = rw is (omega arith)
-        by false is rest = rw is (omega arith)
+  where
+    by : (t : Bool) → p x ≡ t → length (filter p xs) ≤ length xs → length (filter p (x ∷ xs)) ≤ length (x ∷ xs)
+    by true is rest = rw is (omega arith)
+    by false is rest = rw is (omega arith)
 
 word_places_of-few : (view : Viewed) (region offset : ℕ) → IsWithinLimits view.shape → length (word_places_of view region offset) ≤ 5
 word_places_of-few view region offset limits =
@@ -139,5 +141,10 @@ pub written_places_of-few : (source fresh : Viewed) (region offset : ℕ) → Is
 written_places_of-few source fresh region offset limits =
     let read : ℕ = (read_place_of source region offset).0 in
     let others = filtered-few (is_on_other read) (word_places_of fresh region offset) in
-    omega (arith, others, word_places_of-few fresh region offset limits, shadow_places-few fresh region offset limits,
-        length-append (other_places fresh read region offset) (shadow_places fresh region offset))
+    omega (
+      arith,
+      others,
+      word_places_of-few fresh region offset limits,
+      shadow_places-few fresh region offset limits,
+      length-append (other_places fresh read region offset) (shadow_places fresh region offset),
+    )

@@ -1,5 +1,5 @@
 -- A recovery stays one, and its verbs go to places of the pool.
-use Rattle.std.proofs.Common.{◌≡◌, ℕ, zero, suc, ◌+◌, ◌*◌, ◌/◌, ◌%◌, ◌^◌, ◌<◌, ◌≤◌, ◌==◌, if◌then◌else◌, ◌⊎◌, inl, inr, Bool, true, false, List, [], ◌∷◌, ◌++◌, length, take, drop, Option, Some, None, refl, sym, subst, ◌∙◌, arith, length-append, length-drop, length-take}
+use Rattle.std.proofs.Common.{◌≡◌, ℕ, zero, suc, ◌+◌, ◌*◌, ◌/◌, ◌%◌, ◌^◌, ◌<◌, ◌≤◌, ◌==◌, Bool, true, false, List, [], ◌∷◌, ◌++◌, length, take, drop, Option, Some, None, refl, sym, subst, ◌∙◌, arith, length-append, length-drop, length-take}
 use Rattle.std.specs.Prelude.{nat_le, slice_index_or}
 use Rattle.std.proofs.lemmas.Bool.Decides.{nat_tests}
 use Rattle.std.proofs.lemmas.Option.{option_and_then_some}
@@ -17,7 +17,7 @@ use Rattle.machine.specs.declared.slot_write.Wrote.{Wrote}
 use Rattle.machine.specs.declared.slot_write.Wrote.TheVariants as wrote
 use Rattle.machine.specs.BitChange as bits
 use Rattle.machine.specs.BitChange.{BitChange, IsBitChange, bit_change_of}
-use Rattle.machine.specs.EpochRead.{IsView, leaves_none_bare, mask_of, open_mask}
+use Rattle.machine.specs.EpochRead.{IsView, open_mask}
 use Rattle.machine.specs.KeySearch as search
 use Rattle.machine.specs.KeySearch.{IsKeySearch, KeySearch, key_search_of}
 use Rattle.machine.specs.LinkWalk as walk
@@ -53,13 +53,9 @@ use Rattle.object_form.specs.declared.metas.Meta.{Meta}
 use Rattle.object_form.specs.Class.{IsKeyLength, room_of, words_for, words_of}
 use Rattle.object_form.specs.Content.{bytes_of_words}
 use Rattle.object_form.specs.Meta.{checked_meta, is_meta, kind_in, meta_fields, meta_in}
-use Rattle.region_view.specs.declared.epochs.Epoch.{Epoch}
 use Rattle.region_view.specs.Control.{EpochWord, Begin}
-use Rattle.region_view.specs.Epoch.{epoch_in}
 use Rattle.region_view.specs.Placed.{Viewed}
 use Rattle.region_view.specs.Sizes.{IsWithinLimits, Sizes}
-use Rattle.slot_order.proofs.OrderLemmas.{length-order_of-cases}
-use Rattle.slot_order.specs.Slots.{order_of}
 use Rattle.verb_words.specs.declared.verbs.Answer.{Answer}
 use Rattle.verb_words.specs.declared.verbs.Answer.TheVariants.{Word, Done, Lost}
 use Rattle.verb_words.specs.Verb.{place_of}
@@ -362,7 +358,7 @@ turn_at-is (WriteSlot write) recovery answer is at =
 turn_at-is (Resolve resolving) recovery answer is at =
     let walking = turn-walking resolving answer at.2 in
     on_resolved-is recovery (resolution.turn resolving answer).state (resolution.turn resolving answer).told is at.0
-        (of_resolution.turn-is (view_of recovery) resolving answer at.1) walking.phase walking.told
+    (of_resolution.turn-is (view_of recovery) resolving answer at.1) walking.phase walking.told
 turn_at-is (Erase write) recovery answer is at =
     on_erase-is recovery (words.turn write answer).state (words.turn write answer).told is at.0 (of_words.turn-is (view_of recovery) write answer at.1)
 turn_at-is (Free change) recovery answer is at =

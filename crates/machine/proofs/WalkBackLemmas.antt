@@ -14,22 +14,25 @@ pub record IsWalking (turn : Turn Resolution Resolved) : Type 0 where
 
 walks_to-walking : (resolution : Resolution) (word : ℕ) (before : Option ℕ) → IsWalk resolution.phase → IsWalking (walks_to resolution word before)
 walks_to-walking resolution word before is = by (object_in resolution.view.shape word) refl
-  where by : (object : Option Object) → object_in resolution.view.shape word ≡ object → IsWalking (walks_to resolution word before)
-        by None none = rw none (record { phase = is; told = tt })
-        by (Some object) named = rw named (record { phase = tt; told = tt })
+  where
+    by : (object : Option Object) → object_in resolution.view.shape word ≡ object → IsWalking (walks_to resolution word before)
+    by None none = rw none (record { phase = is; told = tt })
+    by (Some object) named = rw named (record { phase = tt; told = tt })
 
 on_version-walking : (resolution : Resolution) (object : Object) (before : Option ℕ) (found : ℕ) → IsWalk resolution.phase → IsWalking (on_version resolution object before found)
 on_version-walking resolution object before found is = by (falls before found) refl (nat_lt resolution.version found) refl
-  where by : (t : Bool) → falls before found ≡ t → (u : Bool) → nat_lt resolution.version found ≡ u → IsWalking (on_version resolution object before found)
-        by true lower true above = rw (lower, above) (record { phase = tt; told = tt })
-        by true lower false below = rw (lower, below) (record { phase = is; told = tt })
-        by false not_lower u above = rw not_lower (record { phase = is; told = tt })
+  where
+    by : (t : Bool) → falls before found ≡ t → (u : Bool) → nat_lt resolution.version found ≡ u → IsWalking (on_version resolution object before found)
+    by true lower true above = rw (lower, above) (record { phase = tt; told = tt })
+    by true lower false below = rw (lower, below) (record { phase = is; told = tt })
+    by false not_lower u above = rw not_lower (record { phase = is; told = tt })
 
 on_expected-walking : (resolution : Resolution) (version found : ℕ) → IsWalk resolution.phase → IsWalking (on_expected resolution version found)
 on_expected-walking resolution version found is = by (found == resolution.fresh) refl
-  where by : (t : Bool) → (found == resolution.fresh) ≡ t → IsWalking (on_expected resolution version found)
-        by true own = rw own (record { phase = is; told = tt })
-        by false other = rw other (walks_to-walking resolution found (Some version) is)
+  where
+    by : (t : Bool) → (found == resolution.fresh) ≡ t → IsWalking (on_expected resolution version found)
+    by true own = rw own (record { phase = is; told = tt })
+    by false other = rw other (walks_to-walking resolution found (Some version) is)
 
 turn_at-walking : (phase : Phase) (resolution : Resolution) (answer : Answer) → IsWalk phase → IsWalk resolution.phase → IsWalking (turn_at phase resolution answer)
 turn_at-walking AtSlot resolution answer at is = absurd at

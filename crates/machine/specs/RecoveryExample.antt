@@ -1,6 +1,6 @@
 -- The recovery of a client that was stopped in its first put, before the swap of the slot on the primary: key `a`, value
 -- `1`, in the smallest pool.
-use Rattle.std.specs.Prelude.{ℕ, List, [], ◌∷◌}
+use Rattle.std.specs.Prelude.{List, [], ◌∷◌}
 use Rattle.machine.specs.declared.recovery.Recovering.{Recovering}
 use Rattle.machine.specs.declared.recovery.Recovering.TheVariants.{Going}
 use Rattle.machine.specs.Examples.{at, one_of_each}
