@@ -54,6 +54,7 @@ use Rattle.machine.specs.ValueRead as values
 use Rattle.machine.specs.ValueRead.{IsValueRead, ValueRead}
 use Rattle.machine.specs.WordsWrite as words
 use Rattle.machine.specs.WordsWrite.{IsWordsWrite, Piece, WordsWrite, body_of, log_of}
+use Rattle.machine.proofs.KeySearchLemmas.{order_of-some}
 use Rattle.machine.proofs.BitChangeLemmas as of_bits
 use Rattle.machine.proofs.ChoosingLemmas as of_choosing
 use Rattle.machine.proofs.KeySearchLemmas as of_search
@@ -77,7 +78,7 @@ use Rattle.object_form.specs.declared.metas.Kind.{Kind}
 use Rattle.object_form.specs.declared.metas.Kind.TheVariants.{Value, Tombstone}
 use Rattle.region_view.specs.Placed.{Viewed}
 use Rattle.region_view.specs.Sizes.{IsWithinLimits, Sizes}
-use Rattle.slot_order.proofs.OrderLemmas.{length-order_of-cases, order_of-below}
+use Rattle.slot_order.proofs.OrderLemmas.{order_of-below}
 use Rattle.slot_order.specs.Slots.{order_of}
 use Rattle.verb_words.specs.declared.verbs.Answer.{Answer}
 use Rattle.verb_words.specs.declared.verbs.Answer.TheVariants.{Word, Done, Lost}
@@ -86,11 +87,6 @@ use Rattle.verb_words.specs.declared.verbs.Answer.TheVariants.{Word, Done, Lost}
 
 pub bytes_same : (xs ys : List ℕ) → bytes_eq xs ys ≡ true → xs ≡ ys
 bytes_same xs ys same = (bytes_eq-Decides xs ys).0 same
-
-order_of-some : (key : List ℕ) (groups : ℕ) → 0 < length (order_of key groups)
-order_of-some key groups = elim (length-order_of-cases key groups) [
-    inl one ↦ omega (arith, one)
-  | inr more ↦ elim more [ inl two ↦ omega (arith, two) | inr three ↦ omega (arith, three) ] ]
 
 pub place_for-below : (sizes : Sizes) (pairs : List Pair) (key : List ℕ) → All (IsPlaceOf sizes) pairs → place_for pairs key < length (order_of key sizes.groups)
 place_for-below sizes pairs key all = by (find (is_of key) pairs) refl

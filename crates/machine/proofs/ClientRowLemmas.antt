@@ -54,6 +54,7 @@ use Rattle.machine.specs.ValueRead as values
 use Rattle.machine.specs.ValueRead.{IsValueRead, ValueRead}
 use Rattle.machine.specs.WordsWrite as words
 use Rattle.machine.specs.WordsWrite.{IsWordsWrite, Piece, WordsWrite, body_of, log_of}
+use Rattle.machine.proofs.ViewLemmas.{open_mask-covers}
 use Rattle.machine.proofs.BitChangeLemmas as of_bits
 use Rattle.machine.proofs.ChoosingLemmas as of_choosing
 use Rattle.machine.proofs.KeySearchLemmas as of_search
@@ -384,18 +385,6 @@ on_return-is s n client change changed.Whole member call has keeps changes = rec
 on_return-is s n client change (changed.Refused node) member call has keeps changes = refused-is s n client node member call keeps
 
 -- The epoch word.
-
--- what opens a mask leaves no region bare
-pub open_mask-covers : (sizes : Sizes) (word mask : ℕ) → open_mask sizes word ≡ Some mask → leaves_none_bare sizes mask ≡ true
-unfolding open_mask
-open_mask-covers sizes word mask opened =
-    option_and_then_some (mask_of sizes) (epoch_in word) mask opened (λ epoch said gives.
-        let inner = not_sealed epoch.sealed _ mask gives in
-        let both = checked (leaves_none_bare sizes epoch.mask) epoch.mask mask inner in
-        subst (λ m. leaves_none_bare sizes m ≡ true) both.1 both.0)
-  where not_sealed : (sealed : Bool) (rest : Option ℕ) (mask : ℕ) → (if sealed then None else rest) ≡ Some mask → rest ≡ Some mask
-        not_sealed true rest mask is = absurd cc
-        not_sealed false rest mask is = is
 
 -- the call goes on under a view
 resumes-is : (s : Sizes) (n : ℕ) (client : Client) (kept : Kept) → Member s n client → Called client → IsView (view_of client) → KeepsFor kept client → ((other : Client) → KeepsFor (kept_of client.stage) other) → IsClient s n (resumes kept client).state

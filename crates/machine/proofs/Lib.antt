@@ -13,6 +13,7 @@ pub mod KeyTestLemmas
 pub mod LinkWalkKept
 pub mod ObjectNamesLemmas
 pub mod PlacesLemmas
+pub mod RecoveryExampleLemmas
 pub mod RecoveryKept
 pub mod ResolutionLemmas
 pub mod SettlingKept
@@ -20,4 +21,5 @@ pub mod SlotWriteLemmas
 pub mod StockLemmas
 pub mod ValueReadLemmas
 pub mod ViewLemmas
+pub mod WalkBackLemmas
 pub mod WordsWriteLemmas

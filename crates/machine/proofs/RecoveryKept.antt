@@ -1,5 +1,5 @@
 -- A recovery stays one, and its verbs go to places of the pool.
-use Rattle.std.proofs.Common.{◌≡◌, ℕ, zero, suc, ◌+◌, ◌*◌, ◌/◌, ◌%◌, ◌^◌, ◌<◌, ◌≤◌, ◌==◌, if◌then◌else◌, ◌⊎◌, inl, inr, Bool, true, false, List, [], ◌∷◌, ◌++◌, length, take, drop, Option, Some, None, refl, sym, subst, ◌∙◌, arith, length-append, length-drop, length-take}
+use Rattle.std.proofs.Common.{◌≡◌, ℕ, zero, suc, ◌+◌, ◌*◌, ◌/◌, ◌%◌, ◌^◌, ◌<◌, ◌≤◌, ◌==◌, Bool, true, false, List, [], ◌∷◌, ◌++◌, length, take, drop, Option, Some, None, refl, sym, subst, ◌∙◌, arith, length-append, length-drop, length-take}
 use Rattle.std.specs.Prelude.{nat_le, slice_index_or}
 use Rattle.std.proofs.lemmas.Bool.Decides.{nat_tests}
 use Rattle.std.proofs.lemmas.Option.{option_and_then_some}
@@ -17,7 +17,7 @@ use Rattle.machine.specs.declared.slot_write.Wrote.{Wrote}
 use Rattle.machine.specs.declared.slot_write.Wrote.TheVariants as wrote
 use Rattle.machine.specs.BitChange as bits
 use Rattle.machine.specs.BitChange.{BitChange, IsBitChange, bit_change_of}
-use Rattle.machine.specs.EpochRead.{IsView, leaves_none_bare, mask_of, open_mask}
+use Rattle.machine.specs.EpochRead.{IsView, open_mask}
 use Rattle.machine.specs.KeySearch as search
 use Rattle.machine.specs.KeySearch.{IsKeySearch, KeySearch, key_search_of}
 use Rattle.machine.specs.LinkWalk as walk
@@ -27,7 +27,7 @@ use Rattle.machine.specs.Places.{IsInPool, object_word, primary_place}
 use Rattle.machine.specs.Recovery.{first_reserve, fitting, finds, fresh_of, is_beaten, is_of_call, is_won, linked_by, meta_for, next, on_begin, on_epoch, on_erase, on_find, on_free, on_meta, on_resolved, on_restock, on_version, on_walk, on_wrote, reads_log, reads_object, restocks_from, settles, turn, turn_at, verb_at, walks_back, walks_next, with_log, writes}
 use Rattle.machine.specs.RecoveryStage.{AreEnds, ClassEnd, HasKey, HasObject, HasView, IsAt, IsRecovery, Recovery, Stage, ReadEpoch, ReadBegin, Walk, Restock, ReadMeta, ReadLog, Find, ReadVersion, WriteSlot, Resolve, Erase, Free, WriteBegin, ReadBlock, Spread, Release, recovery_of, view_of}
 use Rattle.machine.specs.Resolution as resolution
-use Rattle.machine.specs.Resolution.{IsResolution, Resolution, version_walk_of}
+use Rattle.machine.specs.Resolution.{IsToldByWalk, IsWalk, IsResolution, Resolution, version_walk_of}
 use Rattle.machine.specs.SlotWrite as slots
 use Rattle.machine.specs.SlotWrite.{IsSlotWrite, SlotWrite, slot_write_of}
 use Rattle.machine.specs.WordsWrite as words
@@ -35,6 +35,7 @@ use Rattle.machine.specs.WordsWrite.{IsWordsWrite, Piece, WordsWrite, words_writ
 use Rattle.machine.proofs.BitChangeLemmas as of_bits
 use Rattle.machine.proofs.BlockReleaseKept.{IsBase, base_of, first_block-is, goes_to-is, next_block-is, on_block_word-is, read_block-inside, release-inside, spread-inside, spreads_from-is, write_begin-inside}
 use Rattle.machine.proofs.KeySearchLemmas as of_search
+use Rattle.machine.proofs.KeySearchLemmas.{order_of-some}
 use Rattle.machine.proofs.KeySearchSlots as of_slots
 use Rattle.machine.proofs.KeyTestLemmas.{object_place-inside, room_of-eight}
 use Rattle.machine.proofs.LinkWalkKept as of_walk
@@ -42,6 +43,9 @@ use Rattle.machine.proofs.ObjectNamesLemmas.{checked, object_in-is, object_in-po
 use Rattle.machine.proofs.PlacesLemmas.{control-inside}
 use Rattle.machine.proofs.ResolutionLemmas as of_resolution
 use Rattle.machine.proofs.SlotWriteLemmas as of_write
+use Rattle.machine.proofs.StockLemmas.{some_same}
+use Rattle.machine.proofs.ViewLemmas.{open_mask-covers}
+use Rattle.machine.proofs.WalkBackLemmas.{turn-walking}
 use Rattle.machine.proofs.WordsWriteLemmas as of_words
 use Rattle.object_form.proofs.ContentLemmas.{length-bytes_of_words}
 use Rattle.object_form.specs.declared.classes.TheConstants.{CLASSES}
@@ -49,13 +53,9 @@ use Rattle.object_form.specs.declared.metas.Meta.{Meta}
 use Rattle.object_form.specs.Class.{IsKeyLength, room_of, words_for, words_of}
 use Rattle.object_form.specs.Content.{bytes_of_words}
 use Rattle.object_form.specs.Meta.{checked_meta, is_meta, kind_in, meta_fields, meta_in}
-use Rattle.region_view.specs.declared.epochs.Epoch.{Epoch}
 use Rattle.region_view.specs.Control.{EpochWord, Begin}
-use Rattle.region_view.specs.Epoch.{epoch_in}
 use Rattle.region_view.specs.Placed.{Viewed}
 use Rattle.region_view.specs.Sizes.{IsWithinLimits, Sizes}
-use Rattle.slot_order.proofs.OrderLemmas.{length-order_of-cases}
-use Rattle.slot_order.specs.Slots.{order_of}
 use Rattle.verb_words.specs.declared.verbs.Answer.{Answer}
 use Rattle.verb_words.specs.declared.verbs.Answer.TheVariants.{Word, Done, Lost}
 use Rattle.verb_words.specs.Verb.{place_of}
@@ -101,14 +101,6 @@ on_free-is recovery change (changed.Refused node) is view at = is
 
 -- How the call stood.
 
-order_of-some : (key : List ℕ) (groups : ℕ) → 0 < length (order_of key groups)
-order_of-some key groups = by (length-order_of-cases key groups)
-  where
-    by : (length (order_of key groups) ≡ 16) ⊎ ((length (order_of key groups) ≡ 24) ⊎ (length (order_of key groups) ≡ 32)) → 0 < length (order_of key groups)
-    by (inl short) = omega arith
-    by (inr (inl middle)) = omega arith
-    by (inr (inr long)) = omega arith
-
 finds-is : (recovery : Recovery) → IsBase recovery → HasKey recovery → IsRecovery (finds recovery).state
 finds-is recovery base has = goes_to-is recovery _ base
     (has, of_search.key_search_of-is (view_of recovery) recovery.key 0 has.0.0 has.1.0 (order_of-some recovery.key recovery.shape.groups))
@@ -147,6 +139,7 @@ walks_back-is recovery slot word base has below = by (object_in recovery.shape w
       has,
       version_walk_of-is (view_of recovery) slot word (fresh_of recovery) recovery.version recovery.key object has.0.0 has.1.0 below
           (object_in-is recovery.shape word object named),
+      tt,
     ))
 
 on_version-is : (recovery : Recovery) (slot word found : ℕ) → IsBase recovery → HasKey recovery → slot < 24 * recovery.shape.groups → IsRecovery (on_version recovery slot word found).state
@@ -165,13 +158,13 @@ on_wrote-is recovery write (wrote.Unchanged word) is has at = is
 on_wrote-is recovery write (wrote.Refused node) is has at = is
 
 on_resolved-is : (recovery : Recovery) (resolving : Resolution) (told : Resolved) → IsRecovery recovery → HasKey recovery → IsResolution (view_of recovery) resolving
-    → IsRecovery (on_resolved recovery resolving told).state
-on_resolved-is recovery resolving resolved.Going is has at = goes_to-is recovery (Resolve resolving) (base_of recovery is) (has, at)
-on_resolved-is recovery resolving resolved.Still is has at = finds-is recovery (base_of recovery is) has
-on_resolved-is recovery resolving resolved.Won is has at = is_won-is recovery recovery.expect (base_of recovery is) has.0.0
-on_resolved-is recovery resolving resolved.Beaten is has at = is_beaten-is recovery (base_of recovery is) has.0
-on_resolved-is recovery resolving resolved.OtherKey is has at = finds-is recovery (base_of recovery is) has
-on_resolved-is recovery resolving (resolved.Refused node) is has at = is
+    → IsWalk resolving.phase → IsToldByWalk told → IsRecovery (on_resolved recovery resolving told).state
+on_resolved-is recovery resolving resolved.Going is has at walks says = goes_to-is recovery (Resolve resolving) (base_of recovery is) (has, at, walks)
+on_resolved-is recovery resolving resolved.Still is has at walks says = absurd says
+on_resolved-is recovery resolving resolved.Won is has at walks says = is_won-is recovery recovery.expect (base_of recovery is) has.0.0
+on_resolved-is recovery resolving resolved.Beaten is has at walks says = is_beaten-is recovery (base_of recovery is) has.0
+on_resolved-is recovery resolving resolved.OtherKey is has at walks says = absurd says
+on_resolved-is recovery resolving (resolved.Refused node) is has at walks says = is
 
 -- The reading of the call's object.
 
@@ -226,9 +219,6 @@ reads_log-is recovery key_len log base has len room within = by (length log == 2
     by false more = rw more (goes_to-is recovery (ReadLog key_len log) base (has, record { len = len; room = room; more = grind (arith, nat_tests) }))
 
 -- The reserves, and the object of the last call.
-
-some_same : {A : Type 0} {x y : A} → Some x ≡ Some y → x ≡ y
-some_same same = cc
 
 AreEnds-drop : (sizes : Sizes) (class n from : ℕ) (ends : List ClassEnd) → from ≡ class + n → AreEnds sizes class ends → AreEnds sizes from (drop n ends)
 AreEnds-drop sizes class zero from ends is are = let same : class ≡ from = omega arith in subst (λ k. AreEnds sizes k ends) same are
@@ -326,17 +316,6 @@ on_begin-is recovery found is view = by (found % 2 == 0) refl
     by true even = rw even (first_block-is recovery is view)
     by false odd = rw odd (walks_next-is (record recovery { number = (found + 1) / 2; ends = [] }) (record { limits = is.limits; client = is.client }) view tt (omega arith))
 
-open_mask-covers : (sizes : Sizes) (word mask : ℕ) → open_mask sizes word ≡ Some mask → leaves_none_bare sizes mask ≡ true
-unfolding open_mask
-open_mask-covers sizes word mask opens =
-    option_and_then_some (mask_of sizes) (epoch_in word) mask opens (λ epoch reads gives. by epoch epoch.sealed gives)
-  where
-    by : (epoch : Epoch) (sealed : Bool) → (if sealed then None else (if leaves_none_bare sizes epoch.mask then Some epoch.mask else None)) ≡ Some mask → leaves_none_bare sizes mask ≡ true
-    by epoch true gives = absurd cc
-    by epoch false gives =
-        let both = checked (leaves_none_bare sizes epoch.mask) epoch.mask mask gives in
-        subst (λ m. leaves_none_bare sizes m ≡ true) both.1 both.0
-
 on_epoch-is : (recovery : Recovery) (found : ℕ) → IsRecovery recovery → IsRecovery (on_epoch recovery found).state
 on_epoch-is recovery found is = by (open_mask recovery.shape found) refl
   where
@@ -377,7 +356,9 @@ turn_at-is (ReadVersion slot word) recovery Lost is at = is
 turn_at-is (WriteSlot write) recovery answer is at =
     on_wrote-is recovery (slots.turn write answer).state (slots.turn write answer).told is at.0 (of_write.turn-is (view_of recovery) write answer at.1)
 turn_at-is (Resolve resolving) recovery answer is at =
-    on_resolved-is recovery (resolution.turn resolving answer).state (resolution.turn resolving answer).told is at.0 (of_resolution.turn-is (view_of recovery) resolving answer at.1)
+    let walking = turn-walking resolving answer at.2 in
+    on_resolved-is recovery (resolution.turn resolving answer).state (resolution.turn resolving answer).told is at.0
+    (of_resolution.turn-is (view_of recovery) resolving answer at.1) walking.phase walking.told
 turn_at-is (Erase write) recovery answer is at =
     on_erase-is recovery (words.turn write answer).state (words.turn write answer).told is at.0 (of_words.turn-is (view_of recovery) write answer at.1)
 turn_at-is (Free change) recovery answer is at =

@@ -1,11 +1,14 @@
 -- The masks that leave each region a replica, by the test and by the fact.
-use Rattle.std.proofs.Common.{◌≡◌, ℕ, zero, suc, ◌+◌, ◌<◌, ◌≤◌, Bool, true, false, subst, List, length, get_or, sym, ap, ◌∙◌, zero-add, arith}
+use Rattle.std.proofs.Common.{◌≡◌, ℕ, ◌+◌, ◌≤◌, if◌then◌else◌, Bool, true, false, Option, Some, None, subst, List, length, get_or, sym, ◌∙◌, zero-add, arith}
 use Rattle.std.specs.List.{list_any, range_with_len}
 use Rattle.std.proofs.lemmas.List.Elements.{All-from_get_or}
 use Rattle.std.proofs.lemmas.List.Folds.{list_all_at, list_any-from_Any, list_any_none}
 use Rattle.std.proofs.lemmas.List.FromFn.{get_or-map-range_with_len, get_or-range_with_len, length-map-range_with_len, length-range_with_len}
 use Rattle.std.proofs.lemmas.List.Sums.{list_all-from_AllPass}
-use Rattle.machine.specs.EpochRead.{IsView, leaves_none_bare}
+use Rattle.std.proofs.lemmas.Option.{option_and_then_some}
+use Rattle.machine.specs.EpochRead.{IsView, leaves_none_bare, mask_of, open_mask}
+use Rattle.machine.proofs.ObjectNamesLemmas.{checked}
+use Rattle.region_view.specs.Epoch.{epoch_in}
 use Rattle.region_view.specs.Placed.{HasReplica, IsBare, LeavesNoneBare, Viewed, in_mask, placed_node, placed_nodes}
 use Rattle.region_view.specs.Sizes.{IsWithinLimits, Sizes}
 
@@ -34,9 +37,9 @@ bare-test sizes mask region bare =
     let f : ℕ → ℕ = placed_node sizes region in
     let long : length (placed_nodes sizes region) ≡ sizes.replicas = length-map-range_with_len f 0 sizes.replicas in
     list_any_none (in_mask mask) (placed_nodes sizes region) (All-from_get_or (λ node. in_mask mask node ≡ false) (placed_nodes sizes region) 0 (λ i below.
-        let is = get_or-map-range_with_len f 0 sizes.replicas i i 0 (omega arith) (zero-add i) in
-        let P : ℕ → Type 0 = λ node. in_mask mask node ≡ false in
-        subst P (sym is) (bare i (omega arith))))
+    let is = get_or-map-range_with_len f 0 sizes.replicas i i 0 (omega arith) (zero-add i) in
+    let P : ℕ → Type 0 = λ node. in_mask mask node ≡ false in
+    subst P (sym is) (bare i (omega arith))))
 
 -- a region that is left bare fails the test
 pub leaves_none_bare-false : (sizes : Sizes) (mask region : ℕ) → region ≤ sizes.regions → IsBare sizes mask region → leaves_none_bare sizes mask ≡ false
@@ -48,3 +51,16 @@ leaves_none_bare-false sizes mask region within bare =
     let is : get_or numbers region 0 ≡ region = get_or-range_with_len 0 (sizes.regions + 1) region 0 (omega arith) ∙ zero-add region in
     let P : ℕ → Type 0 = λ r. test r ≡ false in
     list_all_at test numbers region 0 (omega arith) (subst P (sym is) (bare-test sizes mask region bare))
+
+-- what opens a mask leaves no region bare
+pub open_mask-covers : (sizes : Sizes) (word mask : ℕ) → open_mask sizes word ≡ Some mask → leaves_none_bare sizes mask ≡ true
+unfolding open_mask
+open_mask-covers sizes word mask opened =
+    option_and_then_some (mask_of sizes) (epoch_in word) mask opened (λ epoch said gives.
+    let inner = not_sealed epoch.sealed _ mask gives in
+    let both = checked (leaves_none_bare sizes epoch.mask) epoch.mask mask inner in
+    subst (λ m. leaves_none_bare sizes m ≡ true) both.1 both.0)
+  where
+    not_sealed : (sealed : Bool) (rest : Option ℕ) (mask : ℕ) → (if sealed then None else rest) ≡ Some mask → rest ≡ Some mask
+    not_sealed true rest mask is = absurd cc
+    not_sealed false rest mask is = is

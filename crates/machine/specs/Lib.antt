@@ -12,6 +12,7 @@ pub mod LinkWalk
 pub mod ObjectNames
 pub mod Places
 pub mod Recovery
+pub mod RecoveryExample
 pub mod RecoveryStage
 pub mod Remembered
 pub mod Resolution

@@ -113,7 +113,7 @@ on_wrote recovery write (wrote.Changed word) = finds recovery
 on_wrote recovery write (wrote.Unchanged word) = gives_up recovery (why.Unchanged write.slot word)
 on_wrote recovery write (wrote.Refused node) = refused recovery node
 
--- a walk back tells of no slot that stands still or has another key; it would be looked for anew
+-- a walk back never tells of a slot that is as it was expected or has another key; the key would be looked for anew
 abbrev pub on_resolved : Recovery → Resolution → Resolved → Turn Recovery Recovering
 on_resolved recovery resolving resolved.Going = goes_to recovery (Resolve resolving)
 on_resolved recovery resolving resolved.Still = finds recovery

@@ -6,7 +6,7 @@ use Rattle.machine.specs.KeySearch.{IsKeySearch, KeySearch}
 use Rattle.machine.specs.LinkWalk.{IsLast, IsLinkWalk, IsReserve, LinkWalk}
 use Rattle.machine.specs.ObjectNames.{IsObject, Object, object_in}
 use Rattle.machine.specs.Places.{replica_count}
-use Rattle.machine.specs.Resolution.{IsResolution, Resolution}
+use Rattle.machine.specs.Resolution.{IsResolution, IsWalk, Resolution}
 use Rattle.machine.specs.SlotWrite.{IsSlotWrite, SlotWrite}
 use Rattle.machine.specs.WordsWrite.{IsWordsWrite, WordsWrite}
 use Rattle.object_form.specs.declared.classes.TheConstants.{CLASSES}
@@ -140,7 +140,7 @@ IsAt (ReadLog key_len words) recovery = HasObject recovery × IsLog recovery.obj
 IsAt (Find search) recovery = HasKey recovery × IsKeySearch (view_of recovery) recovery.key search
 IsAt (ReadVersion slot word) recovery = HasKey recovery × IsSlotWith recovery.shape slot word
 IsAt (WriteSlot write) recovery = HasKey recovery × IsSlotWrite (view_of recovery) write
-IsAt (Resolve resolving) recovery = HasKey recovery × IsResolution (view_of recovery) resolving
+IsAt (Resolve resolving) recovery = HasKey recovery × IsResolution (view_of recovery) resolving × IsWalk resolving.phase
 IsAt (Erase write) recovery = HasObject recovery × IsWordsWrite (view_of recovery) write
 IsAt (Free change) recovery = HasView recovery × IsBitChange (view_of recovery) change
 IsAt WriteBegin recovery = HasView recovery

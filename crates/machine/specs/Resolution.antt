@@ -127,3 +127,19 @@ pub record IsResolution (view : Viewed) (resolution : Resolution) : Type 0 where
   pub some : 1 ≤ length resolution.key
   pub slot : resolution.slot < 24 * resolution.view.shape.groups
   pub phase : IsAt resolution.phase resolution.view resolution.key
+
+-- a walk back reads versions and what objects replaced, and nothing else
+abbrev pub IsWalk : Phase → Type 0
+IsWalk AtSlot = ⊥
+IsWalk (AtKey key_test) = ⊥
+IsWalk (AtVersion object before) = Unit {0}
+IsWalk (AtExpected object version) = Unit {0}
+
+-- it tells of no slot that is as it was expected, and of no other key
+abbrev pub IsToldByWalk : Resolved → Type 0
+IsToldByWalk Going = Unit {0}
+IsToldByWalk Still = ⊥
+IsToldByWalk Won = Unit {0}
+IsToldByWalk Beaten = Unit {0}
+IsToldByWalk OtherKey = ⊥
+IsToldByWalk (Refused node) = Unit {0}

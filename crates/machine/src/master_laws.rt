@@ -1,48 +1,83 @@
 //! What holds of the definitions of the master's tasks: each function does nothing, and its clauses
 //! are the law.
 
-ghost use Rattle.std.specs.Prelude.{◌≡◌, ℕ};
+ghost use Rattle.std.specs.Prelude.{◌≡◌, ◌≢◌, ◌+◌, ◌*◌, ◌≤◌, ℕ, List, length};
+ghost use Rattle.std.specs.List.{Contains};
+ghost use Rattle.machine.specs.Copying.{read_place_of, written_places_of};
 ghost use Rattle.machine.specs.Joining as joinings;
-ghost use Rattle.machine.specs.Joining.{IsJoining, Joining};
-ghost use Rattle.machine.specs.LinkWalk as walks;
-ghost use Rattle.machine.specs.LinkWalk.{IsLinkWalk, LinkWalk};
+ghost use Rattle.machine.specs.Joining.{IsJoining, Joining, joining_of};
 ghost use Rattle.machine.specs.Places.{IsInPool};
 ghost use Rattle.machine.specs.Recovery as recoveries;
-ghost use Rattle.machine.specs.RecoveryStage.{IsRecovery, Recovery};
+ghost use Rattle.machine.specs.RecoveryExample.{end_of, of_first_client, recovery_answers, recovery_verbs, verbs_of};
+ghost use Rattle.machine.specs.RecoveryStage.{IsRecovery, Recovery, recovery_of};
+ghost use Rattle.machine.specs.Resolution as resolutions;
+ghost use Rattle.machine.specs.Resolution.{IsToldByWalk, IsWalk, Resolution};
 ghost use Rattle.machine.specs.Settling as settlings;
-ghost use Rattle.machine.specs.Settling.{IsSettling, Settling};
+ghost use Rattle.machine.specs.Settling.{IsSettling, Settling, settling_of};
+ghost use Rattle.machine.specs.declared.recovery.Recovering.{Recovering};
 ghost use Rattle.region_view.specs.Placed.{Viewed};
+ghost use Rattle.region_view.specs.Places.{word_places_of};
+ghost use Rattle.region_view.specs.Sizes.{IsWithinLimits, Sizes};
 ghost use Rattle.verb_words.specs.Verb.{place_of};
 ghost use Rattle.verb_words.specs.declared.verbs.Answer.{Answer};
 
-/// A walk along links stays one, whatever is answered, and its verbs go to places of the pool.
-pub fn link_walks_stay_in_the_pool()
-    ensures kept { (view : Viewed) (walk : LinkWalk) (answer : Answer) → IsLinkWalk view walk
-        → IsLinkWalk view (walks.turn walk answer).state }
-    ensures inside { (view : Viewed) (walk : LinkWalk) → IsLinkWalk view walk
-        → IsInPool view.shape (place_of (walks.next walk)) }
+/// A recovery stands well at its beginning and after every answer to its verb, whatever word is
+/// answered, and its verb goes to a place of its pool.
+pub fn recoveries_stand_well()
+    ensures begins { (client : ℕ) (sizes : Sizes) → IsWithinLimits sizes
+        → 1 ≤ client → client ≤ sizes.clients → IsRecovery (recovery_of client sizes) }
+    ensures goes_on { (recovery : Recovery) (answer : Answer)
+        → IsRecovery recovery → IsRecovery (recoveries.turn recovery answer).state }
+    ensures inside { (recovery : Recovery)
+        → IsRecovery recovery → IsInPool recovery.shape (place_of (recoveries.next recovery)) }
 {}
 
-/// A recovery stays one, whatever is answered, and its verbs go to places of the pool.
-pub fn recoveries_stay_in_the_pool()
-    ensures kept { (recovery : Recovery) (answer : Answer) → IsRecovery recovery
-        → IsRecovery (recoveries.turn recovery answer).state }
-    ensures inside { (recovery : Recovery) → IsRecovery recovery
-        → IsInPool recovery.shape (place_of (recoveries.next recovery)) }
+/// So does a settling.
+pub fn settlings_stand_well()
+    ensures begins { (sizes : Sizes) (stopped : ℕ)
+        → IsWithinLimits sizes → IsSettling (settling_of sizes stopped) }
+    ensures goes_on { (settling : Settling) (answer : Answer)
+        → IsSettling settling → IsSettling (settlings.turn settling answer).state }
+    ensures inside { (settling : Settling)
+        → IsSettling settling → IsInPool settling.shape (place_of (settlings.next settling)) }
 {}
 
-/// A settling stays one, whatever is answered, and its verbs go to places of the pool.
-pub fn settlings_stay_in_the_pool()
-    ensures kept { (settling : Settling) (answer : Answer) → IsSettling settling
-        → IsSettling (settlings.turn settling answer).state }
-    ensures inside { (settling : Settling) → IsSettling settling
-        → IsInPool settling.shape (place_of (settlings.next settling)) }
+/// So does a joining.
+pub fn joinings_stand_well()
+    ensures begins { (sizes : Sizes) (node : ℕ) → IsWithinLimits sizes
+        → 1 ≤ node → node ≤ sizes.nodes → IsJoining (joining_of sizes node) }
+    ensures goes_on { (joining : Joining) (answer : Answer)
+        → IsJoining joining → IsJoining (joinings.turn joining answer).state }
+    ensures inside { (joining : Joining)
+        → IsJoining joining → IsInPool joining.shape (place_of (joinings.next joining)) }
 {}
 
-/// A joining stays one, whatever is answered, and its verbs go to places of the pool.
-pub fn joinings_stay_in_the_pool()
-    ensures kept { (joining : Joining) (answer : Answer) → IsJoining joining
-        → IsJoining (joinings.turn joining answer).state }
-    ensures inside { (joining : Joining) → IsJoining joining
-        → IsInPool joining.shape (place_of (joinings.next joining)) }
+/// A walk back along the versions of a slot reads versions and what objects replaced alone, and
+/// never tells that the slot is as it was expected or has another key.
+pub fn a_walk_back_tells_won_or_beaten()
+    ensures goes_on { (resolution : Resolution) (answer : Answer) → IsWalk resolution.phase
+        → IsWalk (resolutions.turn resolution answer).state.phase }
+    ensures tells { (resolution : Resolution) (answer : Answer) → IsWalk resolution.phase
+        → IsToldByWalk (resolutions.turn resolution answer).told }
+{}
+
+/// A word that is copied goes to its place on each other replica of the new mask, and a slot's word
+/// to its shadow on each replica; these are ten places at most.
+pub fn a_word_is_copied_to_every_other_place()
+    ensures others { (source fresh : Viewed) (region offset : ℕ) (place : ℕ × ℕ)
+        → Contains (word_places_of fresh region offset) place
+        → place.0 ≢ (read_place_of source region offset).0
+        → Contains (written_places_of source fresh region offset) place }
+    ensures shadows { (source fresh : Viewed) (slot : ℕ) (place : ℕ × ℕ)
+        → Contains (word_places_of fresh 0 (24 * fresh.shape.groups + slot)) place
+        → Contains (written_places_of source fresh 0 slot) place }
+    ensures few { (source fresh : Viewed) (region offset : ℕ) → IsWithinLimits fresh.shape
+        → length (written_places_of source fresh region offset) ≤ 10 }
+{}
+
+/// A recovery completes the first put of a small pool, of which the swap of the slot alone was
+/// missing, by these 21 verbs.
+pub fn a_recovery_completes_a_put()
+    ensures verbs { verbs_of of_first_client recovery_answers ≡ recovery_verbs }
+    ensures end { end_of of_first_client recovery_answers ≡ Recovering.Recovered }
 {}

@@ -1,0 +1,11 @@
+use Rattle.machine.proofs.SettlingKept.{settling_of-is, next-inside, turn-is}
+use Rattle.machine.proofs.master_laws.settlings_stand_well.Goals as goal
+
+pub returns-clause-begins : goal.returns-clause-begins
+returns-clause-begins c = settling_of-is
+
+pub returns-clause-goes_on : goal.returns-clause-goes_on
+returns-clause-goes_on c = turn-is
+
+pub returns-clause-inside : goal.returns-clause-inside
+returns-clause-inside c = next-inside
