@@ -60,18 +60,18 @@ use Rattle.verb_words.specs.declared.verbs.Answer.{Answer}
 use Rattle.verb_words.specs.declared.verbs.Answer.TheVariants.{Word, Done, Lost}
 use Rattle.verb_words.specs.Verb.{place_of}
 
-pub recovery_of-is : (client : ℕ) (sizes : Sizes) → IsWithinLimits sizes → 1 ≤ client → client ≤ sizes.clients → IsRecovery (recovery_of client sizes)
-recovery_of-is client sizes limits least most = record { limits = limits; client = (least, most); stage = tt }
+pub recovery_of-is : (client : ℕ) (sizes : Sizes) → IsWithinLimits sizes → 1 ≤ client → client ≤ sizes.clients → IsRecovery sizes client (recovery_of client sizes)
+recovery_of-is client sizes limits least most = record { same_shape = refl; same_client = refl; limits = limits; client = (least, most); stage = tt }
 
 -- How the call ends.
 
-is_won-is : (recovery : Recovery) (replaced : ℕ) → IsBase recovery → HasView recovery → IsRecovery (is_won recovery replaced).state
-is_won-is recovery replaced base view = by (object_in recovery.shape replaced) refl
+is_won-is : (s : Sizes) (n : ℕ) (recovery : Recovery) (replaced : ℕ) → IsBase s n recovery → HasView recovery → IsRecovery s n (is_won recovery replaced).state
+is_won-is s n recovery replaced base view = by (object_in recovery.shape replaced) refl
   where
-    by : (object : Option Object) → object_in recovery.shape replaced ≡ object → IsRecovery (is_won recovery replaced).state
-    by None none = rw none (record { limits = base.limits; client = base.client; stage = view })
+    by : (object : Option Object) → object_in recovery.shape replaced ≡ object → IsRecovery s n (is_won recovery replaced).state
+    by None none = rw none (record { same_shape = base.same_shape; same_client = base.same_client; limits = base.limits; client = base.client; stage = view })
     by (Some object) named = rw named (record {
-      limits = base.limits;
+      same_shape = base.same_shape; same_client = base.same_client; limits = base.limits;
       client = base.client;
       stage = (view, of_bits.bit_change_of-is (view_of recovery) object true true view (object_in-is recovery.shape replaced object named));
     })
@@ -81,90 +81,90 @@ has_version : (class i : ℕ) → class < CLASSES → i < 1 → (slice_index_or 
 has_version class zero below under = let two : 2 < room_of class = omega (arith, room_of-eight class below) in two
 has_version class (suc i) below under = absurd (omega arith)
 
-is_beaten-is : (recovery : Recovery) → IsBase recovery → HasObject recovery → IsRecovery (is_beaten recovery).state
-is_beaten-is recovery base has = goes_to-is recovery _ base (
+is_beaten-is : (s : Sizes) (n : ℕ) (recovery : Recovery) → IsBase s n recovery → HasObject recovery → IsRecovery s n (is_beaten recovery).state
+is_beaten-is s n recovery base has = goes_to-is s n recovery _ base (
   has,
   of_words.words_write_of-is (view_of recovery) recovery.object.pointer recovery.object.class ((2, 0) ∷ []) has.0 has.1 (omega arith)
       (λ i under. has_version recovery.object.class i has.1.class under),
 )
 
-on_erase-is : (recovery : Recovery) (write : WordsWrite) (told : Written) → IsRecovery recovery → HasObject recovery → IsWordsWrite (view_of recovery) write → IsRecovery (on_erase recovery write told).state
-on_erase-is recovery write written.Going is has at = goes_to-is recovery (Erase write) (base_of recovery is) (has, at)
-on_erase-is recovery write written.Whole is has at =
-    goes_to-is recovery _ (base_of recovery is) (has.0, of_bits.bit_change_of-is (view_of recovery) recovery.object true true has.0 has.1)
-on_erase-is recovery write (written.Refused node) is has at = is
+on_erase-is : (s : Sizes) (n : ℕ) (recovery : Recovery) (write : WordsWrite) (told : Written) → IsRecovery s n recovery → HasObject recovery → IsWordsWrite (view_of recovery) write → IsRecovery s n (on_erase recovery write told).state
+on_erase-is s n recovery write written.Going is has at = goes_to-is s n recovery (Erase write) (base_of s n recovery is) (has, at)
+on_erase-is s n recovery write written.Whole is has at =
+    goes_to-is s n recovery _ (base_of s n recovery is) (has.0, of_bits.bit_change_of-is (view_of recovery) recovery.object true true has.0 has.1)
+on_erase-is s n recovery write (written.Refused node) is has at = is
 
-on_free-is : (recovery : Recovery) (change : BitChange) (told : Changed) → IsRecovery recovery → HasView recovery → IsBitChange (view_of recovery) change → IsRecovery (on_free recovery change told).state
-on_free-is recovery change changed.Going is view at = goes_to-is recovery (Free change) (base_of recovery is) (view, at)
-on_free-is recovery change changed.Whole is view at = goes_to-is recovery WriteBegin (base_of recovery is) view
-on_free-is recovery change (changed.Refused node) is view at = is
+on_free-is : (s : Sizes) (n : ℕ) (recovery : Recovery) (change : BitChange) (told : Changed) → IsRecovery s n recovery → HasView recovery → IsBitChange (view_of recovery) change → IsRecovery s n (on_free recovery change told).state
+on_free-is s n recovery change changed.Going is view at = goes_to-is s n recovery (Free change) (base_of s n recovery is) (view, at)
+on_free-is s n recovery change changed.Whole is view at = goes_to-is s n recovery WriteBegin (base_of s n recovery is) view
+on_free-is s n recovery change (changed.Refused node) is view at = is
 
 -- How the call stood.
 
-finds-is : (recovery : Recovery) → IsBase recovery → HasKey recovery → IsRecovery (finds recovery).state
-finds-is recovery base has = goes_to-is recovery _ base
+finds-is : (s : Sizes) (n : ℕ) (recovery : Recovery) → IsBase s n recovery → HasKey recovery → IsRecovery s n (finds recovery).state
+finds-is s n recovery base has = goes_to-is s n recovery _ base
     (has, of_search.key_search_of-is (view_of recovery) recovery.key 0 has.0.0 has.1.0 (order_of-some recovery.key recovery.shape.groups))
 
-writes-is : (recovery : Recovery) (slot word : ℕ) → IsBase recovery → HasKey recovery → slot < 24 * recovery.shape.groups → IsRecovery (writes recovery slot word).state
-writes-is recovery slot word base has below =
-    goes_to-is recovery _ base (has, of_write.slot_write_of-is (view_of recovery) slot word (fresh_of recovery) has.0.0 below)
+writes-is : (s : Sizes) (n : ℕ) (recovery : Recovery) (slot word : ℕ) → IsBase s n recovery → HasKey recovery → slot < 24 * recovery.shape.groups → IsRecovery s n (writes recovery slot word).state
+writes-is s n recovery slot word base has below =
+    goes_to-is s n recovery _ base (has, of_write.slot_write_of-is (view_of recovery) slot word (fresh_of recovery) has.0.0 below)
 
-on_find-is : (recovery : Recovery) (before : KeySearch) (answer : Answer) (told : Found) → IsRecovery recovery → HasKey recovery → IsKeySearch (view_of recovery) recovery.key before
-    → (search.turn before answer).told ≡ told → of_slots.IsTold (24 * recovery.shape.groups) told → IsRecovery (on_find recovery (search.turn before answer).state told).state
-on_find-is recovery before answer found_as.Going is has at tells slot =
-    goes_to-is recovery _ (base_of recovery is) (has, of_search.turn-is (view_of recovery) recovery.key before answer at)
-on_find-is recovery before answer (found_as.Empty x) is has at tells slot = writes-is recovery x 0 (base_of recovery is) has slot
-on_find-is recovery before answer (found_as.At x word kind value_len) is has at tells slot =
+on_find-is : (s : Sizes) (n : ℕ) (recovery : Recovery) (before : KeySearch) (answer : Answer) (told : Found) → IsRecovery s n recovery → HasKey recovery → IsKeySearch (view_of recovery) recovery.key before
+    → (search.turn before answer).told ≡ told → of_slots.IsTold (24 * recovery.shape.groups) told → IsRecovery s n (on_find recovery (search.turn before answer).state told).state
+on_find-is s n recovery before answer found_as.Going is has at tells slot =
+    goes_to-is s n recovery _ (base_of s n recovery is) (has, of_search.turn-is (view_of recovery) recovery.key before answer at)
+on_find-is s n recovery before answer (found_as.Empty x) is has at tells slot = writes-is s n recovery x 0 (base_of s n recovery is) has slot
+on_find-is s n recovery before answer (found_as.At x word kind value_len) is has at tells slot =
     let found = of_search.turn-found (view_of recovery) recovery.key before answer x word value_len kind at tells in
-    goes_to-is recovery (ReadVersion x word) (base_of recovery is) (has, record { below = slot; object = found.object; named = found.named })
-on_find-is recovery before answer found_as.Nowhere is has at tells slot = is_beaten-is recovery (base_of recovery is) has.0
-on_find-is recovery before answer (found_as.Refused node) is has at tells slot = is
+    goes_to-is s n recovery (ReadVersion x word) (base_of s n recovery is) (has, record { below = slot; object = found.object; named = found.named })
+on_find-is s n recovery before answer found_as.Nowhere is has at tells slot = is_beaten-is s n recovery (base_of s n recovery is) has.0
+on_find-is s n recovery before answer (found_as.Refused node) is has at tells slot = is
 
-finds_at-is : (recovery : Recovery) (before : KeySearch) (answer : Answer) → IsRecovery recovery → HasKey recovery → IsKeySearch (view_of recovery) recovery.key before
-    → IsRecovery (on_find recovery (search.turn before answer).state (search.turn before answer).told).state
-finds_at-is recovery before answer is has at =
-    on_find-is recovery before answer (search.turn before answer).told is has at refl (of_slots.turn-told (view_of recovery) recovery.key before answer at)
+finds_at-is : (s : Sizes) (n : ℕ) (recovery : Recovery) (before : KeySearch) (answer : Answer) → IsRecovery s n recovery → HasKey recovery → IsKeySearch (view_of recovery) recovery.key before
+    → IsRecovery s n (on_find recovery (search.turn before answer).state (search.turn before answer).told).state
+finds_at-is s n recovery before answer is has at =
+    on_find-is s n recovery before answer (search.turn before answer).told is has at refl (of_slots.turn-told (view_of recovery) recovery.key before answer at)
 
 version_walk_of-is : (view : Viewed) (slot expect fresh version : ℕ) (key : List ℕ) (object : Object) → IsView view → 1 ≤ length key → slot < 24 * view.shape.groups → IsObject view.shape object
     → IsResolution view (version_walk_of view slot expect fresh version key object)
 version_walk_of-is view slot expect fresh version key object is some below named =
     record { held = refl; is_view = is; some = some; slot = below; phase = named }
 
-walks_back-is : (recovery : Recovery) (slot word : ℕ) → IsBase recovery → HasKey recovery → slot < 24 * recovery.shape.groups → IsRecovery (walks_back recovery slot word).state
-walks_back-is recovery slot word base has below = by (object_in recovery.shape word) refl
+walks_back-is : (s : Sizes) (n : ℕ) (recovery : Recovery) (slot word : ℕ) → IsBase s n recovery → HasKey recovery → slot < 24 * recovery.shape.groups → IsRecovery s n (walks_back recovery slot word).state
+walks_back-is s n recovery slot word base has below = by (object_in recovery.shape word) refl
   where
-    by : (object : Option Object) → object_in recovery.shape word ≡ object → IsRecovery (walks_back recovery slot word).state
-    by None none = rw none (is_beaten-is recovery base has.0)
-    by (Some object) named = rw named (goes_to-is recovery _ base (
+    by : (object : Option Object) → object_in recovery.shape word ≡ object → IsRecovery s n (walks_back recovery slot word).state
+    by None none = rw none (is_beaten-is s n recovery base has.0)
+    by (Some object) named = rw named (goes_to-is s n recovery _ base (
       has,
       version_walk_of-is (view_of recovery) slot word (fresh_of recovery) recovery.version recovery.key object has.0.0 has.1.0 below
           (object_in-is recovery.shape word object named),
       tt,
     ))
 
-on_version-is : (recovery : Recovery) (slot word found : ℕ) → IsBase recovery → HasKey recovery → slot < 24 * recovery.shape.groups → IsRecovery (on_version recovery slot word found).state
-on_version-is recovery slot word found base has below = by (word == fresh_of recovery) refl ((found + 1) % 2 ^ 64 == recovery.version) refl
+on_version-is : (s : Sizes) (n : ℕ) (recovery : Recovery) (slot word found : ℕ) → IsBase s n recovery → HasKey recovery → slot < 24 * recovery.shape.groups → IsRecovery s n (on_version recovery slot word found).state
+on_version-is s n recovery slot word found base has below = by (word == fresh_of recovery) refl ((found + 1) % 2 ^ 64 == recovery.version) refl
   where
-    by : (t : Bool) → (word == fresh_of recovery) ≡ t → (u : Bool) → ((found + 1) % 2 ^ 64 == recovery.version) ≡ u → IsRecovery (on_version recovery slot word found).state
-    by true own u before = rw own (is_won-is recovery recovery.expect base has.0.0)
-    by false other true before = rw (other, before) (writes-is recovery slot word base has below)
-    by false other false later = rw (other, later) (walks_back-is recovery slot word base has below)
+    by : (t : Bool) → (word == fresh_of recovery) ≡ t → (u : Bool) → ((found + 1) % 2 ^ 64 == recovery.version) ≡ u → IsRecovery s n (on_version recovery slot word found).state
+    by true own u before = rw own (is_won-is s n recovery recovery.expect base has.0.0)
+    by false other true before = rw (other, before) (writes-is s n recovery slot word base has below)
+    by false other false later = rw (other, later) (walks_back-is s n recovery slot word base has below)
 
-on_wrote-is : (recovery : Recovery) (write : SlotWrite) (told : Wrote) → IsRecovery recovery → HasKey recovery → IsSlotWrite (view_of recovery) write → IsRecovery (on_wrote recovery write told).state
-on_wrote-is recovery write wrote.Going is has at = goes_to-is recovery (WriteSlot write) (base_of recovery is) (has, at)
-on_wrote-is recovery write wrote.Won is has at = is_won-is recovery write.expect (base_of recovery is) has.0.0
-on_wrote-is recovery write (wrote.Changed word) is has at = finds-is recovery (base_of recovery is) has
-on_wrote-is recovery write (wrote.Unchanged word) is has at = is
-on_wrote-is recovery write (wrote.Refused node) is has at = is
+on_wrote-is : (s : Sizes) (n : ℕ) (recovery : Recovery) (write : SlotWrite) (told : Wrote) → IsRecovery s n recovery → HasKey recovery → IsSlotWrite (view_of recovery) write → IsRecovery s n (on_wrote recovery write told).state
+on_wrote-is s n recovery write wrote.Going is has at = goes_to-is s n recovery (WriteSlot write) (base_of s n recovery is) (has, at)
+on_wrote-is s n recovery write wrote.Won is has at = is_won-is s n recovery write.expect (base_of s n recovery is) has.0.0
+on_wrote-is s n recovery write (wrote.Changed word) is has at = finds-is s n recovery (base_of s n recovery is) has
+on_wrote-is s n recovery write (wrote.Unchanged word) is has at = is
+on_wrote-is s n recovery write (wrote.Refused node) is has at = is
 
-on_resolved-is : (recovery : Recovery) (resolving : Resolution) (told : Resolved) → IsRecovery recovery → HasKey recovery → IsResolution (view_of recovery) resolving
-    → IsWalk resolving.phase → IsToldByWalk told → IsRecovery (on_resolved recovery resolving told).state
-on_resolved-is recovery resolving resolved.Going is has at walks says = goes_to-is recovery (Resolve resolving) (base_of recovery is) (has, at, walks)
-on_resolved-is recovery resolving resolved.Still is has at walks says = absurd says
-on_resolved-is recovery resolving resolved.Won is has at walks says = is_won-is recovery recovery.expect (base_of recovery is) has.0.0
-on_resolved-is recovery resolving resolved.Beaten is has at walks says = is_beaten-is recovery (base_of recovery is) has.0
-on_resolved-is recovery resolving resolved.OtherKey is has at walks says = absurd says
-on_resolved-is recovery resolving (resolved.Refused node) is has at walks says = is
+on_resolved-is : (s : Sizes) (n : ℕ) (recovery : Recovery) (resolving : Resolution) (told : Resolved) → IsRecovery s n recovery → HasKey recovery → IsResolution (view_of recovery) resolving
+    → IsWalk resolving.phase → IsToldByWalk told → IsRecovery s n (on_resolved recovery resolving told).state
+on_resolved-is s n recovery resolving resolved.Going is has at walks says = goes_to-is s n recovery (Resolve resolving) (base_of s n recovery is) (has, at, walks)
+on_resolved-is s n recovery resolving resolved.Still is has at walks says = absurd says
+on_resolved-is s n recovery resolving resolved.Won is has at walks says = is_won-is s n recovery recovery.expect (base_of s n recovery is) has.0.0
+on_resolved-is s n recovery resolving resolved.Beaten is has at walks says = is_beaten-is s n recovery (base_of s n recovery is) has.0
+on_resolved-is s n recovery resolving resolved.OtherKey is has at walks says = absurd says
+on_resolved-is s n recovery resolving (resolved.Refused node) is has at walks says = is
 
 -- The reading of the call's object.
 
@@ -184,21 +184,21 @@ meta_for-says recovery found meta says =
     = ((grind (arith, nat_tests), grind (arith, nat_tests)), grind (arith, nat_tests)) in
     subst P room.1 here))
 
-on_meta-is : (recovery : Recovery) (found : ℕ) → IsBase recovery → HasObject recovery → IsRecovery (on_meta recovery found).state
-on_meta-is recovery found base has = by (meta_for recovery found) refl
+on_meta-is : (s : Sizes) (n : ℕ) (recovery : Recovery) (found : ℕ) → IsBase s n recovery → HasObject recovery → IsRecovery s n (on_meta recovery found).state
+on_meta-is s n recovery found base has = by (meta_for recovery found) refl
   where
-    by : (meta : Option Meta) → meta_for recovery found ≡ meta → IsRecovery (on_meta recovery found).state
-    by None none = rw none (is_beaten-is recovery base has)
+    by : (meta : Option Meta) → meta_for recovery found ≡ meta → IsRecovery s n (on_meta recovery found).state
+    by None none = rw none (is_beaten-is s n recovery base has)
     by (Some meta) says =
         let holds = meta_for-says recovery found meta says in
-        rw says (goes_to-is recovery (ReadLog meta.key_len []) base (has, record { len = holds.0; room = omega (arith, holds.1); more = omega arith }))
+        rw says (goes_to-is s n recovery (ReadLog meta.key_len []) base (has, record { len = holds.0; room = omega (arith, holds.1); more = omega arith }))
 
-settles-is : (recovery : Recovery) → IsBase recovery → HasKey recovery → IsRecovery (settles recovery).state
-settles-is recovery base has = by (recovery.version == 0) refl
+settles-is : (s : Sizes) (n : ℕ) (recovery : Recovery) → IsBase s n recovery → HasKey recovery → IsRecovery s n (settles recovery).state
+settles-is s n recovery base has = by (recovery.version == 0) refl
   where
-    by : (t : Bool) → (recovery.version == 0) ≡ t → IsRecovery (settles recovery).state
-    by true none = rw none (is_beaten-is recovery base has.0)
-    by false some = rw some (finds-is recovery base has)
+    by : (t : Bool) → (recovery.version == 0) ≡ t → IsRecovery s n (settles recovery).state
+    by true none = rw none (is_beaten-is s n recovery base has.0)
+    by false some = rw some (finds-is s n recovery base has)
 
 -- so many words have as many bytes as the key
 key-long : (key_len : ℕ) (log : List ℕ) → length log ≡ 2 + words_for key_len → length (take key_len (bytes_of_words (drop 2 log))) ≡ key_len
@@ -207,16 +207,16 @@ key-long key_len log long =
     let bytes = length-bytes_of_words (drop 2 log) in
     omega (arith, length-take key_len (bytes_of_words (drop 2 log)))
 
-reads_log-is : (recovery : Recovery) (key_len : ℕ) (log : List ℕ) → IsBase recovery → HasObject recovery → IsKeyLength key_len → 4 + words_for key_len ≤ room_of recovery.object.class
-    → length log ≤ 2 + words_for key_len → IsRecovery (reads_log recovery key_len log).state
-reads_log-is recovery key_len log base has len room within = by (length log == 2 + words_for key_len) refl
+reads_log-is : (s : Sizes) (n : ℕ) (recovery : Recovery) (key_len : ℕ) (log : List ℕ) → IsBase s n recovery → HasObject recovery → IsKeyLength key_len → 4 + words_for key_len ≤ room_of recovery.object.class
+    → length log ≤ 2 + words_for key_len → IsRecovery s n (reads_log recovery key_len log).state
+reads_log-is s n recovery key_len log base has len room within = by (length log == 2 + words_for key_len) refl
   where
-    by : (t : Bool) → (length log == 2 + words_for key_len) ≡ t → IsRecovery (reads_log recovery key_len log).state
+    by : (t : Bool) → (length log == 2 + words_for key_len) ≡ t → IsRecovery s n (reads_log recovery key_len log).state
     by true full =
         let same = key-long key_len log (grind (arith, nat_tests)) in
-        let next : IsBase (with_log recovery key_len log) = record { limits = base.limits; client = base.client } in
-        rw full (settles-is (with_log recovery key_len log) next (has, subst IsKeyLength (sym same) len))
-    by false more = rw more (goes_to-is recovery (ReadLog key_len log) base (has, record { len = len; room = room; more = grind (arith, nat_tests) }))
+        let next : IsBase s n (with_log recovery key_len log) = record { same_shape = base.same_shape; same_client = base.same_client; limits = base.limits; client = base.client } in
+        rw full (settles-is s n (with_log recovery key_len log) next (has, subst IsKeyLength (sym same) len))
+    by false more = rw more (goes_to-is s n recovery (ReadLog key_len log) base (has, record { len = len; room = room; more = grind (arith, nat_tests) }))
 
 -- The reserves, and the object of the last call.
 
@@ -262,147 +262,149 @@ linked_by-is sizes number class (end ∷ ends) object are gives = by end.last re
     by None none says later = later (sym (rw none refl) ∙ says)
     by (Some last) some says later = of_last last some (is_of_call number last) refl says later
 
-reads_object-is : (recovery : Recovery) → IsBase recovery → HasView recovery → AreEnds recovery.shape 0 recovery.ends → IsRecovery (reads_object recovery).state
-reads_object-is recovery base view are = by (linked_by recovery.number 0 recovery.ends) refl
+reads_object-is : (s : Sizes) (n : ℕ) (recovery : Recovery) → IsBase s n recovery → HasView recovery → AreEnds recovery.shape 0 recovery.ends → IsRecovery s n (reads_object recovery).state
+reads_object-is s n recovery base view are = by (linked_by recovery.number 0 recovery.ends) refl
   where
-    by : (object : Option Object) → linked_by recovery.number 0 recovery.ends ≡ object → IsRecovery (reads_object recovery).state
-    by None none = rw none (goes_to-is recovery WriteBegin base view)
+    by : (object : Option Object) → linked_by recovery.number 0 recovery.ends ≡ object → IsRecovery s n (reads_object recovery).state
+    by None none = rw none (goes_to-is s n recovery WriteBegin base view)
     by (Some object) some = rw some (record {
-      limits = base.limits;
+      same_shape = base.same_shape; same_client = base.same_client; limits = base.limits;
       client = base.client;
       stage = (view, linked_by-is recovery.shape recovery.number 0 recovery.ends object are some);
     })
 
-restocks_from-is : (recovery : Recovery) (class : ℕ) → IsBase recovery → HasView recovery → AreEnds recovery.shape 0 recovery.ends → IsRecovery (restocks_from recovery class).state
-restocks_from-is recovery class base view are = by (first_reserve class (drop class recovery.ends)) refl
+restocks_from-is : (s : Sizes) (n : ℕ) (recovery : Recovery) (class : ℕ) → IsBase s n recovery → HasView recovery → AreEnds recovery.shape 0 recovery.ends → IsRecovery s n (restocks_from recovery class).state
+restocks_from-is s n recovery class base view are = by (first_reserve class (drop class recovery.ends)) refl
   where
-    by : (object : Option Object) → first_reserve class (drop class recovery.ends) ≡ object → IsRecovery (restocks_from recovery class).state
-    by None none = rw none (reads_object-is recovery base view are)
+    by : (object : Option Object) → first_reserve class (drop class recovery.ends) ≡ object → IsRecovery s n (restocks_from recovery class).state
+    by None none = rw none (reads_object-is s n recovery base view are)
     by (Some object) some =
         let named = first_reserve-is recovery.shape class (drop class recovery.ends) object (AreEnds-drop recovery.shape 0 class class recovery.ends (omega arith) are) some in
-        rw some (goes_to-is recovery _ base (view, are, of_bits.bit_change_of-is (view_of recovery) object true true view named))
+        rw some (goes_to-is s n recovery _ base (view, are, of_bits.bit_change_of-is (view_of recovery) object true true view named))
 
-on_restock-is : (recovery : Recovery) (class : ℕ) (change : BitChange) (told : Changed) → IsRecovery recovery → HasView recovery → AreEnds recovery.shape 0 recovery.ends
-    → IsBitChange (view_of recovery) change → IsRecovery (on_restock recovery class change told).state
-on_restock-is recovery class change changed.Going is view are at = goes_to-is recovery (Restock class change) (base_of recovery is) (view, are, at)
-on_restock-is recovery class change changed.Whole is view are at = restocks_from-is recovery (class + 1) (base_of recovery is) view are
-on_restock-is recovery class change (changed.Refused node) is view are at = is
+on_restock-is : (s : Sizes) (n : ℕ) (recovery : Recovery) (class : ℕ) (change : BitChange) (told : Changed) → IsRecovery s n recovery → HasView recovery → AreEnds recovery.shape 0 recovery.ends
+    → IsBitChange (view_of recovery) change → IsRecovery s n (on_restock recovery class change told).state
+on_restock-is s n recovery class change changed.Going is view are at = goes_to-is s n recovery (Restock class change) (base_of s n recovery is) (view, are, at)
+on_restock-is s n recovery class change changed.Whole is view are at = restocks_from-is s n recovery (class + 1) (base_of s n recovery is) view are
+on_restock-is s n recovery class change (changed.Refused node) is view are at = is
 
-walks_next-is : (recovery : Recovery) → IsBase recovery → HasView recovery → AreEnds recovery.shape 0 recovery.ends → length recovery.ends ≤ CLASSES → IsRecovery (walks_next recovery).state
-walks_next-is recovery base view are within = by (length recovery.ends == CLASSES) refl
+walks_next-is : (s : Sizes) (n : ℕ) (recovery : Recovery) → IsBase s n recovery → HasView recovery → AreEnds recovery.shape 0 recovery.ends → length recovery.ends ≤ CLASSES → IsRecovery s n (walks_next recovery).state
+walks_next-is s n recovery base view are within = by (length recovery.ends == CLASSES) refl
   where
-    by : (t : Bool) → (length recovery.ends == CLASSES) ≡ t → IsRecovery (walks_next recovery).state
-    by true all = rw all (restocks_from-is recovery 0 base view are)
-    by false more = rw more (goes_to-is recovery _ base
+    by : (t : Bool) → (length recovery.ends == CLASSES) ≡ t → IsRecovery s n (walks_next recovery).state
+    by true all = rw all (restocks_from-is s n recovery 0 base view are)
+    by false more = rw more (goes_to-is s n recovery _ base
         (view, are, of_walk.link_walk_of-is (view_of recovery) recovery.client (length recovery.ends) view base.client.0 base.client.1 (grind (arith, nat_tests)), refl))
 
-on_walk-is : (recovery : Recovery) (link_walk : LinkWalk) (told : Walked) → IsRecovery recovery → HasView recovery → AreEnds recovery.shape 0 recovery.ends
+on_walk-is : (s : Sizes) (n : ℕ) (recovery : Recovery) (link_walk : LinkWalk) (told : Walked) → IsRecovery s n recovery → HasView recovery → AreEnds recovery.shape 0 recovery.ends
     → IsLinkWalk (view_of recovery) link_walk → link_walk.class ≡ length recovery.ends → of_walk.IsTold recovery.shape (length recovery.ends) told
-    → IsRecovery (on_walk recovery link_walk told).state
-on_walk-is recovery link_walk walked.Going is view are at class says = goes_to-is recovery (Walk link_walk) (base_of recovery is) (view, are, at, class)
-on_walk-is recovery link_walk (walked.End last reserve) is view are at class says =
+    → IsRecovery s n (on_walk recovery link_walk told).state
+on_walk-is s n recovery link_walk walked.Going is view are at class says = goes_to-is s n recovery (Walk link_walk) (base_of s n recovery is) (view, are, at, class)
+on_walk-is s n recovery link_walk (walked.End last reserve) is view are at class says =
     let end : ClassEnd = record { last = last; reserve = reserve } in
-    let next : IsBase (record recovery { ends = recovery.ends ++ end ∷ [] }) = record { limits = is.limits; client = is.client } in
-    walks_next-is (record recovery { ends = recovery.ends ++ end ∷ [] }) next view (AreEnds-push recovery.shape 0 (length recovery.ends) recovery.ends end (omega arith) are says.0 says.1)
+    let next : IsBase s n (record recovery { ends = recovery.ends ++ end ∷ [] }) = record { same_shape = is.same_shape; same_client = is.same_client; limits = is.limits; client = is.client } in
+    walks_next-is s n (record recovery { ends = recovery.ends ++ end ∷ [] }) next view (AreEnds-push recovery.shape 0 (length recovery.ends) recovery.ends end (omega arith) are says.0 says.1)
     (omega (arith, length-append recovery.ends (end ∷ []), at.class, class))
-on_walk-is recovery link_walk (walked.Refused node) is view are at class says = is
+on_walk-is s n recovery link_walk (walked.Refused node) is view are at class says = is
 
 -- The begin of a recovery.
 
-on_begin-is : (recovery : Recovery) (found : ℕ) → IsRecovery recovery → HasView recovery → IsRecovery (on_begin recovery found).state
-on_begin-is recovery found is view = by (found % 2 == 0) refl
+on_begin-is : (s : Sizes) (n : ℕ) (recovery : Recovery) (found : ℕ) → IsRecovery s n recovery → HasView recovery → IsRecovery s n (on_begin recovery found).state
+on_begin-is s n recovery found is view = by (found % 2 == 0) refl
   where
-    by : (t : Bool) → (found % 2 == 0) ≡ t → IsRecovery (on_begin recovery found).state
-    by true even = rw even (first_block-is recovery is view)
-    by false odd = rw odd (walks_next-is (record recovery { number = (found + 1) / 2; ends = [] }) (record { limits = is.limits; client = is.client }) view tt (omega arith))
+    by : (t : Bool) → (found % 2 == 0) ≡ t → IsRecovery s n (on_begin recovery found).state
+    by true even = rw even (first_block-is s n recovery is view)
+    by false odd = rw odd (walks_next-is s n (record recovery { number = (found + 1) / 2; ends = [] }) (record { same_shape = is.same_shape; same_client = is.same_client; limits = is.limits; client = is.client }) view tt (omega arith))
 
-on_epoch-is : (recovery : Recovery) (found : ℕ) → IsRecovery recovery → IsRecovery (on_epoch recovery found).state
-on_epoch-is recovery found is = by (open_mask recovery.shape found) refl
+on_epoch-is : (s : Sizes) (n : ℕ) (recovery : Recovery) (found : ℕ) → IsRecovery s n recovery → IsRecovery s n (on_epoch recovery found).state
+on_epoch-is s n recovery found is = by (open_mask recovery.shape found) refl
   where
-    by : (mask : Option ℕ) → open_mask recovery.shape found ≡ mask → IsRecovery (on_epoch recovery found).state
+    by : (mask : Option ℕ) → open_mask recovery.shape found ≡ mask → IsRecovery s n (on_epoch recovery found).state
     by None none = rw none is
     by (Some mask) opens = rw opens (record {
-      limits = is.limits;
+      same_shape = is.same_shape; same_client = is.same_client; limits = is.limits;
       client = is.client;
       stage = record { limits = is.limits; covers = open_mask-covers recovery.shape found mask opens };
     })
 
 -- The whole.
 
-turn_at-is : (stage : Stage) (recovery : Recovery) (answer : Answer) → IsRecovery recovery → IsAt stage recovery → IsRecovery (turn_at stage recovery answer).state
-turn_at-is ReadEpoch recovery (Word found) is at = on_epoch-is recovery found is
-turn_at-is ReadEpoch recovery Done is at = is
-turn_at-is ReadEpoch recovery Lost is at = is
-turn_at-is ReadBegin recovery (Word found) is at = on_begin-is recovery found is at
-turn_at-is ReadBegin recovery Done is at = is
-turn_at-is ReadBegin recovery Lost is at = is
-turn_at-is (Walk link_walk) recovery answer is at =
+turn_at-is : (s : Sizes) (n : ℕ) (stage : Stage) (recovery : Recovery) (answer : Answer) → IsRecovery s n recovery → IsAt stage recovery → IsRecovery s n (turn_at stage recovery answer).state
+turn_at-is s n ReadEpoch recovery (Word found) is at = on_epoch-is s n recovery found is
+turn_at-is s n ReadEpoch recovery Done is at = is
+turn_at-is s n ReadEpoch recovery Lost is at = is
+turn_at-is s n ReadBegin recovery (Word found) is at = on_begin-is s n recovery found is at
+turn_at-is s n ReadBegin recovery Done is at = is
+turn_at-is s n ReadBegin recovery Lost is at = is
+turn_at-is s n (Walk link_walk) recovery answer is at =
     let kept = of_walk.turn-is (view_of recovery) link_walk answer at.2 in
-    on_walk-is recovery (walk.turn link_walk answer).state (walk.turn link_walk answer).told is at.0 at.1 kept.state (kept.class ∙ at.3)
+    on_walk-is s n recovery (walk.turn link_walk answer).state (walk.turn link_walk answer).told is at.0 at.1 kept.state (kept.class ∙ at.3)
     (subst (λ k. of_walk.IsTold recovery.shape k (walk.turn link_walk answer).told) at.3 kept.told)
-turn_at-is (Restock class change) recovery answer is at =
-    on_restock-is recovery class (bits.turn change answer).state (bits.turn change answer).told is at.0 at.1 (of_bits.turn-is (view_of recovery) change answer at.2)
-turn_at-is ReadMeta recovery (Word found) is at = on_meta-is recovery found (base_of recovery is) at
-turn_at-is ReadMeta recovery Done is at = is
-turn_at-is ReadMeta recovery Lost is at = is
-turn_at-is (ReadLog key_len log) recovery (Word found) is at =
-    reads_log-is recovery key_len (log ++ found ∷ []) (base_of recovery is) at.0 at.1.len at.1.room (omega (arith, length-append log (found ∷ []), at.1.more))
-turn_at-is (ReadLog key_len log) recovery Done is at = is
-turn_at-is (ReadLog key_len log) recovery Lost is at = is
-turn_at-is (Find key_search) recovery answer is at = finds_at-is recovery key_search answer is at.0 at.1
-turn_at-is (ReadVersion slot word) recovery (Word found) is at = on_version-is recovery slot word found (base_of recovery is) at.0 at.1.below
-turn_at-is (ReadVersion slot word) recovery Done is at = is
-turn_at-is (ReadVersion slot word) recovery Lost is at = is
-turn_at-is (WriteSlot write) recovery answer is at =
-    on_wrote-is recovery (slots.turn write answer).state (slots.turn write answer).told is at.0 (of_write.turn-is (view_of recovery) write answer at.1)
-turn_at-is (Resolve resolving) recovery answer is at =
+turn_at-is s n (Restock class change) recovery answer is at =
+    on_restock-is s n recovery class (bits.turn change answer).state (bits.turn change answer).told is at.0 at.1 (of_bits.turn-is (view_of recovery) change answer at.2)
+turn_at-is s n ReadMeta recovery (Word found) is at = on_meta-is s n recovery found (base_of s n recovery is) at
+turn_at-is s n ReadMeta recovery Done is at = is
+turn_at-is s n ReadMeta recovery Lost is at = is
+turn_at-is s n (ReadLog key_len log) recovery (Word found) is at =
+    reads_log-is s n recovery key_len (log ++ found ∷ []) (base_of s n recovery is) at.0 at.1.len at.1.room (omega (arith, length-append log (found ∷ []), at.1.more))
+turn_at-is s n (ReadLog key_len log) recovery Done is at = is
+turn_at-is s n (ReadLog key_len log) recovery Lost is at = is
+turn_at-is s n (Find key_search) recovery answer is at = finds_at-is s n recovery key_search answer is at.0 at.1
+turn_at-is s n (ReadVersion slot word) recovery (Word found) is at = on_version-is s n recovery slot word found (base_of s n recovery is) at.0 at.1.below
+turn_at-is s n (ReadVersion slot word) recovery Done is at = is
+turn_at-is s n (ReadVersion slot word) recovery Lost is at = is
+turn_at-is s n (WriteSlot write) recovery answer is at =
+    on_wrote-is s n recovery (slots.turn write answer).state (slots.turn write answer).told is at.0 (of_write.turn-is (view_of recovery) write answer at.1)
+turn_at-is s n (Resolve resolving) recovery answer is at =
     let walking = turn-walking resolving answer at.2 in
-    on_resolved-is recovery (resolution.turn resolving answer).state (resolution.turn resolving answer).told is at.0
+    on_resolved-is s n recovery (resolution.turn resolving answer).state (resolution.turn resolving answer).told is at.0
     (of_resolution.turn-is (view_of recovery) resolving answer at.1) walking.phase walking.told
-turn_at-is (Erase write) recovery answer is at =
-    on_erase-is recovery (words.turn write answer).state (words.turn write answer).told is at.0 (of_words.turn-is (view_of recovery) write answer at.1)
-turn_at-is (Free change) recovery answer is at =
-    on_free-is recovery (bits.turn change answer).state (bits.turn change answer).told is at.0 (of_bits.turn-is (view_of recovery) change answer at.1)
-turn_at-is WriteBegin recovery (Word found) is at = is
-turn_at-is WriteBegin recovery Done is at = first_block-is recovery is at
-turn_at-is WriteBegin recovery Lost is at = is
-turn_at-is ReadBlock recovery (Word found) is at = on_block_word-is recovery found is at
-turn_at-is ReadBlock recovery Done is at = is
-turn_at-is ReadBlock recovery Lost is at = is
-turn_at-is (Spread class backup) recovery (Word found) is at = is
-turn_at-is (Spread class backup) recovery Done is at = spreads_from-is recovery class (backup + 1) (base_of recovery is) at.0 at.1
-turn_at-is (Spread class backup) recovery Lost is at = is
-turn_at-is (Release class) recovery (Word found) is at = next_block-is recovery is at.0.0
-turn_at-is (Release class) recovery Done is at = is
-turn_at-is (Release class) recovery Lost is at = is
+turn_at-is s n (Erase write) recovery answer is at =
+    on_erase-is s n recovery (words.turn write answer).state (words.turn write answer).told is at.0 (of_words.turn-is (view_of recovery) write answer at.1)
+turn_at-is s n (Free change) recovery answer is at =
+    on_free-is s n recovery (bits.turn change answer).state (bits.turn change answer).told is at.0 (of_bits.turn-is (view_of recovery) change answer at.1)
+turn_at-is s n WriteBegin recovery (Word found) is at = is
+turn_at-is s n WriteBegin recovery Done is at = first_block-is s n recovery is at
+turn_at-is s n WriteBegin recovery Lost is at = is
+turn_at-is s n ReadBlock recovery (Word found) is at = on_block_word-is s n recovery found is at
+turn_at-is s n ReadBlock recovery Done is at = is
+turn_at-is s n ReadBlock recovery Lost is at = is
+turn_at-is s n (Spread class backup) recovery (Word found) is at = is
+turn_at-is s n (Spread class backup) recovery Done is at = spreads_from-is s n recovery class (backup + 1) (base_of s n recovery is) at.0 at.1
+turn_at-is s n (Spread class backup) recovery Lost is at = is
+turn_at-is s n (Release class) recovery (Word found) is at = next_block-is s n recovery is at.0.0
+turn_at-is s n (Release class) recovery Done is at = is
+turn_at-is s n (Release class) recovery Lost is at = is
 
 -- a recovery stays one, whatever is answered
-pub turn-is : (recovery : Recovery) (answer : Answer) → IsRecovery recovery → IsRecovery (turn recovery answer).state
-turn-is recovery answer is = turn_at-is recovery.stage recovery answer is is.stage
+pub turn-is : (s : Sizes) (n : ℕ) (recovery : Recovery) (answer : Answer) → IsRecovery s n recovery → IsRecovery s n (turn recovery answer).state
+turn-is s n recovery answer is = turn_at-is s n recovery.stage recovery answer is is.stage
 
-verb_at-inside : (stage : Stage) (recovery : Recovery) → IsBase recovery → IsAt stage recovery → IsInPool recovery.shape (place_of (verb_at stage recovery))
-verb_at-inside ReadEpoch recovery base at = control-inside recovery.shape EpochWord tt
-verb_at-inside ReadBegin recovery base at = control-inside recovery.shape (Begin recovery.client) (base.client.0, omega (arith, base.client, base.limits.clients))
-verb_at-inside (Walk link_walk) recovery base at = of_walk.next-inside (view_of recovery) link_walk at.2
-verb_at-inside (Restock class change) recovery base at = of_bits.next-inside (view_of recovery) change at.2
-verb_at-inside ReadMeta recovery base at = object_place-inside (view_of recovery) recovery.object 1 at.0 at.1 (omega (arith, room_of-eight recovery.object.class at.1.class))
-verb_at-inside (ReadLog key_len log) recovery base at =
+verb_at-inside : (s : Sizes) (n : ℕ) (stage : Stage) (recovery : Recovery) → IsBase s n recovery → IsAt stage recovery → IsInPool recovery.shape (place_of (verb_at stage recovery))
+verb_at-inside s n ReadEpoch recovery base at = control-inside recovery.shape EpochWord tt
+verb_at-inside s n ReadBegin recovery base at = control-inside recovery.shape (Begin recovery.client) (base.client.0, omega (arith, base.client, base.limits.clients))
+verb_at-inside s n (Walk link_walk) recovery base at = of_walk.next-inside (view_of recovery) link_walk at.2
+verb_at-inside s n (Restock class change) recovery base at = of_bits.next-inside (view_of recovery) change at.2
+verb_at-inside s n ReadMeta recovery base at = object_place-inside (view_of recovery) recovery.object 1 at.0 at.1 (omega (arith, room_of-eight recovery.object.class at.1.class))
+verb_at-inside s n (ReadLog key_len log) recovery base at =
     object_place-inside (view_of recovery) recovery.object (2 + length log) at.0.0 at.0.1 (omega (arith, at.1.room, at.1.more))
-verb_at-inside (Find key_search) recovery base at = of_search.next-inside (view_of recovery) recovery.key key_search at.1
-verb_at-inside (ReadVersion slot word) recovery base at =
+verb_at-inside s n (Find key_search) recovery base at = of_search.next-inside (view_of recovery) recovery.key key_search at.1
+verb_at-inside s n (ReadVersion slot word) recovery base at =
     let is = object_in-is recovery.shape word at.1.object at.1.named in
     let P : ℕ → Type 0 = λ p. IsInPool recovery.shape (primary_place (view_of recovery) (object_word p 2)) in
     subst P (object_in-pointer recovery.shape word at.1.object at.1.named)
     (object_place-inside (view_of recovery) at.1.object 2 at.0.0.0 is (omega (arith, room_of-eight at.1.object.class is.class)))
-verb_at-inside (WriteSlot write) recovery base at = of_write.next-inside (view_of recovery) write at.1
-verb_at-inside (Resolve resolving) recovery base at = of_resolution.next-inside (view_of recovery) resolving at.1
-verb_at-inside (Erase write) recovery base at = of_words.next-inside (view_of recovery) write at.1
-verb_at-inside (Free change) recovery base at = of_bits.next-inside (view_of recovery) change at.1
-verb_at-inside WriteBegin recovery base at = write_begin-inside recovery base
-verb_at-inside ReadBlock recovery base at = read_block-inside recovery base at
-verb_at-inside (Spread class backup) recovery base at = spread-inside recovery class backup base at.0 at.2
-verb_at-inside (Release class) recovery base at = release-inside recovery class base at.0
+verb_at-inside s n (WriteSlot write) recovery base at = of_write.next-inside (view_of recovery) write at.1
+verb_at-inside s n (Resolve resolving) recovery base at = of_resolution.next-inside (view_of recovery) resolving at.1
+verb_at-inside s n (Erase write) recovery base at = of_words.next-inside (view_of recovery) write at.1
+verb_at-inside s n (Free change) recovery base at = of_bits.next-inside (view_of recovery) change at.1
+verb_at-inside s n WriteBegin recovery base at = write_begin-inside s n recovery base
+verb_at-inside s n ReadBlock recovery base at = read_block-inside s n recovery base at
+verb_at-inside s n (Spread class backup) recovery base at = spread-inside s n recovery class backup base at.0 at.2
+verb_at-inside s n (Release class) recovery base at = release-inside s n recovery class base at.0
 
 -- its verb goes to a place of the pool
-pub next-inside : (recovery : Recovery) → IsRecovery recovery → IsInPool recovery.shape (place_of (next recovery))
-next-inside recovery is = verb_at-inside recovery.stage recovery (base_of recovery is) is.stage
+pub next-inside : (s : Sizes) (n : ℕ) (recovery : Recovery) → IsRecovery s n recovery → IsInPool s (place_of (next recovery))
+next-inside s n recovery is =
+    let P : Sizes → Type 0 = λ sizes. IsInPool sizes (place_of (next recovery)) in
+    subst P is.same_shape (verb_at-inside s n recovery.stage recovery (base_of s n recovery is) is.stage)

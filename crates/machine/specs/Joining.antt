@@ -1,5 +1,5 @@
 -- The joining of a lost node that stands outside the mask: its status word is set live while the epoch is open.
-use Rattle.std.specs.Prelude.{ℕ, ◌≤◌}
+use Rattle.std.specs.Prelude.{◌≡◌, ℕ, ◌≤◌}
 use Rattle.std.specs.Option.{option_map_or}
 use Rattle.machine.specs.declared.joining.Joined.{Joined}
 use Rattle.machine.specs.declared.joining.Joined.TheVariants as joined
@@ -53,6 +53,7 @@ abbrev pub turn : Joining → Answer → Turn Joining Joined
 turn joining answer = turn_at joining.phase joining answer
 
 -- what holds of each joining
-pub record IsJoining (joining : Joining) : Type 0 where
+pub record IsJoining (sizes : Sizes) (joining : Joining) : Type 0 where
+  pub same_shape : joining.shape ≡ sizes
   pub limits : IsWithinLimits joining.shape
   pub node : (1 ≤ joining.node) × (joining.node ≤ joining.shape.nodes)

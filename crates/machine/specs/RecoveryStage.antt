@@ -149,8 +149,10 @@ IsAt (Spread class backup) recovery =
     HasBlock recovery × (class < CLASSES) × (backup + 1 < replica_count (view_of recovery) (word_at_block recovery))
 IsAt (Release class) recovery = HasBlock recovery × (class < CLASSES)
 
--- what holds of each recovery
-pub record IsRecovery (recovery : Recovery) : Type 0 where
+-- what holds of each recovery of the client of a number, in a pool of these sizes
+pub record IsRecovery (shape : Sizes) (number : ℕ) (recovery : Recovery) : Type 0 where
+  pub same_shape : recovery.shape ≡ shape
+  pub same_client : recovery.client ≡ number
   pub limits : IsWithinLimits recovery.shape
   pub client : (1 ≤ recovery.client) × (recovery.client ≤ recovery.shape.clients)
   pub stage : IsAt recovery.stage recovery

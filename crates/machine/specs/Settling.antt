@@ -210,6 +210,7 @@ IsAt (WriteWord word target) settling = IsCopying settling × (target < length (
 IsAt phase settling = Unit {0}
 
 -- what holds of each settling
-pub record IsSettling (settling : Settling) : Type 0 where
+pub record IsSettling (sizes : Sizes) (settling : Settling) : Type 0 where
+  pub same_shape : settling.shape ≡ sizes
   pub limits : IsWithinLimits settling.shape
   pub phase : IsAt settling.phase settling

@@ -16,6 +16,7 @@ ghost use Rattle.machine.specs.Settling as settlings;
 ghost use Rattle.machine.specs.Settling.{IsSettling, Settling, settling_of};
 ghost use Rattle.machine.specs.declared.recovery.Recovering.{Recovering};
 ghost use Rattle.region_view.specs.Placed.{Viewed};
+ghost use Rattle.region_view.specs.Sizes.{Sizes};
 ghost use Rattle.region_view.specs.Places.{word_places_of};
 ghost use Rattle.region_view.specs.Sizes.{IsWithinLimits, Sizes};
 ghost use Rattle.verb_words.specs.Verb.{place_of};
@@ -25,31 +26,33 @@ ghost use Rattle.verb_words.specs.declared.verbs.Answer.{Answer};
 /// answered, and its verb goes to a place of its pool.
 pub fn recoveries_stand_well()
     ensures begins { (client : ℕ) (sizes : Sizes) → IsWithinLimits sizes
-        → 1 ≤ client → client ≤ sizes.clients → IsRecovery (recovery_of client sizes) }
-    ensures goes_on { (recovery : Recovery) (answer : Answer)
-        → IsRecovery recovery → IsRecovery (recoveries.turn recovery answer).state }
-    ensures inside { (recovery : Recovery)
-        → IsRecovery recovery → IsInPool recovery.shape (place_of (recoveries.next recovery)) }
+        → 1 ≤ client → client ≤ sizes.clients → IsRecovery sizes client (recovery_of client sizes) }
+    ensures goes_on { (sizes : Sizes) (client : ℕ) (recovery : Recovery) (answer : Answer)
+        → IsRecovery sizes client recovery
+        → IsRecovery sizes client (recoveries.turn recovery answer).state }
+    ensures inside { (sizes : Sizes) (client : ℕ) (recovery : Recovery)
+        → IsRecovery sizes client recovery
+        → IsInPool sizes (place_of (recoveries.next recovery)) }
 {}
 
 /// So does a settling.
 pub fn settlings_stand_well()
     ensures begins { (sizes : Sizes) (stopped : ℕ)
-        → IsWithinLimits sizes → IsSettling (settling_of sizes stopped) }
-    ensures goes_on { (settling : Settling) (answer : Answer)
-        → IsSettling settling → IsSettling (settlings.turn settling answer).state }
-    ensures inside { (settling : Settling)
-        → IsSettling settling → IsInPool settling.shape (place_of (settlings.next settling)) }
+        → IsWithinLimits sizes → IsSettling sizes (settling_of sizes stopped) }
+    ensures goes_on { (sizes : Sizes) (settling : Settling) (answer : Answer)
+        → IsSettling sizes settling → IsSettling sizes (settlings.turn settling answer).state }
+    ensures inside { (sizes : Sizes) (settling : Settling)
+        → IsSettling sizes settling → IsInPool sizes (place_of (settlings.next settling)) }
 {}
 
 /// So does a joining.
 pub fn joinings_stand_well()
     ensures begins { (sizes : Sizes) (node : ℕ) → IsWithinLimits sizes
-        → 1 ≤ node → node ≤ sizes.nodes → IsJoining (joining_of sizes node) }
-    ensures goes_on { (joining : Joining) (answer : Answer)
-        → IsJoining joining → IsJoining (joinings.turn joining answer).state }
-    ensures inside { (joining : Joining)
-        → IsJoining joining → IsInPool joining.shape (place_of (joinings.next joining)) }
+        → 1 ≤ node → node ≤ sizes.nodes → IsJoining sizes (joining_of sizes node) }
+    ensures goes_on { (sizes : Sizes) (joining : Joining) (answer : Answer)
+        → IsJoining sizes joining → IsJoining sizes (joinings.turn joining answer).state }
+    ensures inside { (sizes : Sizes) (joining : Joining)
+        → IsJoining sizes joining → IsInPool sizes (place_of (joinings.next joining)) }
 {}
 
 /// A walk back along the versions of a slot reads versions and what objects replaced alone, and
