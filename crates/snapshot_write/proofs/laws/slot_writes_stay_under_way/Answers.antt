@@ -1,0 +1,8 @@
+use Rattle.snapshot_write.proofs.StateLemmas.{begun-under_way, turn-kept}
+use Rattle.snapshot_write.proofs.laws.slot_writes_stay_under_way.Goals as goal
+
+pub returns-clause-begun : goal.returns-clause-begun
+returns-clause-begun c = begun-under_way
+
+pub returns-clause-kept : goal.returns-clause-kept
+returns-clause-kept c = turn-kept

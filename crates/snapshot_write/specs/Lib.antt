@@ -1,0 +1,4 @@
+pub mod Bound
+pub mod Causes
+pub mod Phases
+pub mod States
