@@ -12,6 +12,7 @@ pub mod KeySearchSlots
 pub mod KeyTestLemmas
 pub mod LinkWalkKept
 pub mod ObjectNamesLemmas
+pub mod PlacePairLemmas
 pub mod PlacesLemmas
 pub mod RecoveryExampleLemmas
 pub mod RecoveryKept

@@ -17,6 +17,10 @@ control word = record { node = 0; at = control_position word }
 abbrev pub place_of_home : Sizes → Home → Place
 place_of_home sizes home = record { node = home.0; at = position_of sizes home.1 }
 
+-- node and position of a home
+abbrev pub pair_of : Sizes → Home → ℕ × ℕ
+pair_of sizes home = (home.0, position_of sizes home.1)
+
 -- the word on each replica of its region, the primary first
 abbrev pub homes_of : Viewed → NodeWord → List Home
 homes_of view word = map (λ node. (node, word)) (replicas_of view (region_of_word word))

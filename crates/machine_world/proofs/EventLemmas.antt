@@ -62,7 +62,7 @@ works_on-lengths world (Settles settling) = words_after-lengths world.nodes (set
 works_on-lengths world (Recovers recovery) = words_after-lengths world.nodes (recoveries.next recovery) true
 works_on-lengths world (Joins joining) = words_after-lengths world.nodes (joinings.next joining) true
 
-occurs-lengths : (world : World) (event : Event) → map length (occurs world event).nodes ≡ map length world.nodes
+pub occurs-lengths : (world : World) (event : Event) → map length (occurs world event).nodes ≡ map length world.nodes
 occurs-lengths world Register = refl
 occurs-lengths world (Invoke client call) = refl
 occurs-lengths world (Step client) = words_after-lengths world.nodes (verb_of world client) true

@@ -5,4 +5,5 @@ pub mod Ledger
 pub mod Readings
 pub mod Refusals
 pub mod Runs
+pub mod Standing
 pub mod World
