@@ -331,3 +331,9 @@ HasPlace-inside world place stands inside = elim inside [
             ∙ ap (λ sizes. get_or sizes (suc node) 0) stands.words
             ∙ get_or-replicate world.shape.nodes node (node_words world.shape) 0 (omega arith)
         at zero least most = absurd (omega arith)
+
+pub verb_of-place : (world : World) (client : ℕ) → StandsWell world → 1 ≤ client → client < length world.clients → HasPlace world.nodes (place_of (verb_of world client))
+verb_of-place world client stands least within = HasPlace-inside world (place_of (verb_of world client)) stands (verb_of-inside world client stands least within)
+
+pub verb_of_task-place : (world : World) (verb : Verb) → StandsWell world → verb_of_task world.master.task ≡ Some verb → HasPlace world.nodes (place_of verb)
+verb_of_task-place world verb stands is = HasPlace-inside world (place_of verb) stands (verb_of_task-inside world verb stands is)

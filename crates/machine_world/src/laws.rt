@@ -1,20 +1,22 @@
 //! What holds of the definitions: each function does nothing, and its clause is the law.
 
-ghost use Rattle.std.specs.Prelude.{◌≡◌, ◌≢◌, ◌+◌, ◌<◌, ℕ, Bool, List, [], ◌∷◌, ◌++◌, length, map, None, Some};
+ghost use Rattle.std.specs.Prelude.{◌≡◌, ◌≢◌, ◌+◌, ◌<◌, ◌≤◌, ℕ, Bool, List, [], ◌∷◌, ◌++◌, length, map, None, Some};
 ghost use Rattle.machine.specs.Client.{after, told};
-ghost use Rattle.machine_world.specs.Events.{answer_of, chooses, fills, happens, invokes, loses, moments_of, acts, registers, stops, verb_event, verb_of, works};
+ghost use Rattle.machine_world.specs.Events.{answer_of, chooses, fills, happens, invokes, loses, moments_of, acts, registers, stops, verb_event, verb_of, verb_of_task, works};
 ghost use Rattle.machine_world.specs.Refusals.{refusal};
 ghost use Rattle.machine_world.specs.Runs.{run, verbs_at, verbs_taken};
+ghost use Rattle.machine_world.specs.Standing.{StandsWell};
 ghost use Rattle.machine_world.specs.World.{World, client_at, first_world};
 ghost use Rattle.machine_world.specs.declared.events.Event.{Event};
 ghost use Rattle.machine_world.specs.declared.events.Event.TheVariants as event;
 ghost use Rattle.machine_world.specs.declared.events.Task.{Task};
 ghost use Rattle.machine_world.specs.declared.outcomes.Refused.{Refused};
 ghost use Rattle.map_model.specs.declared.calls.Call.{Call};
-ghost use Rattle.region_view.specs.Sizes.{Sizes};
+ghost use Rattle.region_view.specs.Sizes.{IsWithinLimits, Sizes};
 ghost use Rattle.verb_words.specs.Verb.{place_of};
-ghost use Rattle.verb_words.specs.Words.{word_at};
+ghost use Rattle.verb_words.specs.Words.{HasPlace, word_at};
 ghost use Rattle.verb_words.specs.declared.verbs.Place.{Place};
+ghost use Rattle.verb_words.specs.declared.verbs.Verb.{Verb};
 
 /// An event that is refused leaves the world as it was.
 pub fn refused_events_change_nothing()
@@ -84,4 +86,21 @@ pub fn runs_go_on()
     ensures verbs { (sizes : Sizes) (client : ℕ) (events : List Event) (event : Event)
         → verbs_taken sizes client (events ++ event ∷ [])
         ≡ verbs_taken sizes client events + verbs_at (run sizes events) client event }
+{}
+
+/// After every run the nodes have all of their words, and each client and the master's task stand
+/// well, whatever words they were answered.
+pub fn the_world_stands_well()
+    ensures { (sizes : Sizes) (events : List Event)
+        → IsWithinLimits sizes → StandsWell (run sizes events) }
+{}
+
+/// Each verb of a client and of the master, in every run, goes to a word that the nodes have.
+pub fn verbs_find_their_words()
+    ensures clients { (world : World) (client : ℕ) → StandsWell world
+        → 1 ≤ client → client < length world.clients
+        → HasPlace world.nodes (place_of (verb_of world client)) }
+    ensures master { (world : World) (verb : Verb) → StandsWell world
+        → verb_of_task world.master.task ≡ Some verb
+        → HasPlace world.nodes (place_of verb) }
 {}
