@@ -6,6 +6,7 @@ mod byte_text;
 mod faults;
 mod out_lines;
 mod scripts;
+mod word_values;
 
 pub use byte_text::Text;
 pub use faults::{BadKind, ScriptFault};
