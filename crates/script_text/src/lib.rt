@@ -4,8 +4,11 @@
 
 mod byte_text;
 mod faults;
+mod keywords;
+mod line_faults;
 mod out_lines;
 mod scripts;
+mod word_counts;
 mod word_values;
 
 pub use byte_text::Text;
