@@ -9,3 +9,7 @@ abbrev pub IsRead : {T : Type 0} → Result T LineFault → Result T BadKind →
 IsRead (Ok value) meant = meant ≡ Ok value
 IsRead (Err (Bad kind)) meant = meant ≡ Err kind
 IsRead (Err NoMemory) meant = Unit {0}
+
+-- the kind of the fault of what is not meant
+abbrev pub IsKind : {T : Type 0} → BadKind → Result T BadKind → Type 0
+IsKind kind meant = meant ≡ Err kind

@@ -6,8 +6,10 @@ mod byte_text;
 mod faults;
 mod keywords;
 mod line_faults;
+mod line_reading;
 mod out_lines;
 mod scripts;
+mod shape_reading;
 mod word_counts;
 mod word_values;
 
