@@ -8,6 +8,7 @@ mod keywords;
 mod line_faults;
 mod line_reading;
 mod out_lines;
+mod script_reading;
 mod scripts;
 mod shape_reading;
 mod word_counts;
