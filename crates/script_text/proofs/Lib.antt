@@ -1,1 +1,3 @@
+pub mod LineFormLemmas
+pub mod LineMeaningLemmas
 pub mod WordValueLemmas

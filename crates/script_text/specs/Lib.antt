@@ -1,6 +1,7 @@
 pub mod Keyword
 pub mod LineForm
 pub mod LineRead
+pub mod Meaning
 pub mod ScriptForm
 pub mod ScriptRead
 pub mod ShapeForm
