@@ -1,3 +1,5 @@
 pub mod LineFormLemmas
 pub mod LineMeaningLemmas
+pub mod ScriptFormLemmas
+pub mod ShapeFormLemmas
 pub mod WordValueLemmas
