@@ -5,5 +5,6 @@ pub mod Meaning
 pub mod ScriptForm
 pub mod ScriptRead
 pub mod ShapeForm
+pub mod Sound
 pub mod WordCount
 pub mod WordValue

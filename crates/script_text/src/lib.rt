@@ -5,6 +5,7 @@
 mod byte_text;
 mod faults;
 mod keywords;
+pub mod laws;
 mod line_faults;
 mod line_reading;
 mod out_lines;
@@ -17,4 +18,5 @@ mod word_values;
 pub use byte_text::Text;
 pub use faults::{BadKind, ScriptFault};
 pub use out_lines::{NotYetText, OutLine, RefusalText, ReplyText};
+pub use script_reading::{MOST_BYTES, parse};
 pub use scripts::{CallText, Line, Script, Shape};

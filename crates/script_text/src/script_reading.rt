@@ -1,7 +1,8 @@
-ghost use Rattle.std.specs.Prelude.{◌≡◌, ◌+◌, ◌≤◌, ◌<◌, ◌^◌, [], length};
+ghost use Rattle.std.specs.Prelude.{◌≡◌, ◌+◌, ◌≤◌, ◌<◌, ◌^◌, IfOk, [], length};
 ghost use Rattle.text_lines.specs.Lines.{lines_of};
 ghost use Rattle.script_text.specs.ScriptForm.{lines_after, reading_of};
-ghost use Rattle.script_text.specs.ScriptRead.{Gives, IsOpened, plan_of};
+ghost use Rattle.script_text.specs.ScriptRead.{Gives, IsOpened, IsParsed, plan_of};
+ghost use Rattle.script_text.specs.Sound.{IsSound};
 
 use crate::faults::{BadKind, ScriptFault};
 use crate::line_faults::LineFault;
@@ -13,6 +14,16 @@ use text_lines::{has_bad_byte, is_skipped, next_line};
 
 /// The most bytes of a script.
 pub const MOST_BYTES: usize = 4_194_304;
+
+/// Reads a script. A text of no script is answered by the first of its lines that is bad, counted
+/// from 1 with those that are skipped, and the first kind of its faults in the order of `BadKind`.
+pub fn parse(alloc: Global, text: &[u8]) -> Result<Script, ScriptFault>
+    requires { length text.now ≤ MOST_BYTES }
+    ensures parsed { IsParsed result text.now }
+    ensures sound { IfOk result (λ script. IsSound text.now (plan_of script)) }
+{
+    read(alloc, text)
+}
 
 fn read(alloc: Global, text: &[u8]) -> Result<Script, ScriptFault>
     requires { length text.now ≤ MOST_BYTES }

@@ -1,3 +1,4 @@
+pub mod BoundLemmas
 pub mod LineLemmas
 pub mod NumberLemmas
 pub mod PlaceLemmas

@@ -1,3 +1,4 @@
+pub mod Bound
 pub mod Cut
 pub mod Lines
 pub mod Number

@@ -4,6 +4,7 @@
 //! lines or of words is made, and no byte is read more than a few times.
 #![tactic(auto)]
 
+pub mod laws;
 mod lines;
 mod numbers;
 #[cfg(test)]
