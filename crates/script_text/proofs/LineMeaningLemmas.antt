@@ -215,17 +215,17 @@ call_means [] line is = cc
 call_means (client ∷ []) line is = cc
 call_means (client ∷ name ∷ words) line is =
     named (λ name. MeansLine (codes "call" ∷ client ∷ name ∷ words) line) (codes "put") (codes "get") (codes "delete") line (call_put client words) (call_get client words) (call_delete client words) name
-        (bytes_eq name (codes "put")) (bytes_eq name (codes "get")) (bytes_eq name (codes "delete")) refl refl refl
-        (call_put_means client words line) (call_get_means client words line) (call_delete_means client words line) is
+    (bytes_eq name (codes "put")) (bytes_eq name (codes "get")) (bytes_eq name (codes "delete")) refl refl refl
+    (call_put_means client words line) (call_get_means client words line) (call_delete_means client words line) is
 
 task_means : (words : List (List ℕ)) (line : Line) → task_line words ≡ Ok line → MeansLine (codes "task" ∷ words) line
 task_means [] line is = cc
 task_means (name ∷ words) line is =
     named (λ name. MeansLine (codes "task" ∷ name ∷ words) line) (codes "settle") (codes "recover") (codes "join") line (plain lines.TaskSettle words) (numbered lines.TaskRecover words) (numbered lines.TaskJoin words) name
-        (bytes_eq name (codes "settle")) (bytes_eq name (codes "recover")) (bytes_eq name (codes "join")) refl refl refl
-        (plain_means lines.TaskSettle words line (λ words line. MeansLine (codes "task" ∷ codes "settle" ∷ words) line) ((refl, (refl, tt)), tt))
-        (numbered_means lines.TaskRecover words line (λ words line. MeansLine (codes "task" ∷ codes "recover" ∷ words) line) (λ word value number. ((refl, (refl, (number, tt))), tt)))
-        (numbered_means lines.TaskJoin words line (λ words line. MeansLine (codes "task" ∷ codes "join" ∷ words) line) (λ word value number. ((refl, (refl, (number, tt))), tt))) is
+    (bytes_eq name (codes "settle")) (bytes_eq name (codes "recover")) (bytes_eq name (codes "join")) refl refl refl
+    (plain_means lines.TaskSettle words line (λ words line. MeansLine (codes "task" ∷ codes "settle" ∷ words) line) ((refl, (refl, tt)), tt))
+    (numbered_means lines.TaskRecover words line (λ words line. MeansLine (codes "task" ∷ codes "recover" ∷ words) line) (λ word value number. ((refl, (refl, (number, tt))), tt)))
+    (numbered_means lines.TaskJoin words line (λ words line. MeansLine (codes "task" ∷ codes "join" ∷ words) line) (λ word value number. ((refl, (refl, (number, tt))), tt))) is
 
 -- a fixed word, one of two
 either_named : (P : List ℕ → Type 0) (a b : List ℕ) (line : Line) (x y : Result Line BadKind) (name : List ℕ) (is_a is_b : Bool)
@@ -239,9 +239,9 @@ verbs_means : (words : List (List ℕ)) (line : Line) → verbs_line words ≡ O
 verbs_means [] line is = cc
 verbs_means (name ∷ words) line is =
     either_named (λ name. MeansLine (codes "verbs" ∷ name ∷ words) line) (codes "on") (codes "off") line (plain (lines.Verbs true) words) (plain (lines.Verbs false) words) name
-        (bytes_eq name (codes "on")) (bytes_eq name (codes "off")) refl refl
-        (plain_means (lines.Verbs true) words line (λ words line. MeansLine (codes "verbs" ∷ codes "on" ∷ words) line) ((refl, (refl, tt)), tt))
-        (plain_means (lines.Verbs false) words line (λ words line. MeansLine (codes "verbs" ∷ codes "off" ∷ words) line) ((refl, (refl, tt)), tt)) is
+    (bytes_eq name (codes "on")) (bytes_eq name (codes "off")) refl refl
+    (plain_means (lines.Verbs true) words line (λ words line. MeansLine (codes "verbs" ∷ codes "on" ∷ words) line) ((refl, (refl, tt)), tt))
+    (plain_means (lines.Verbs false) words line (λ words line. MeansLine (codes "verbs" ∷ codes "off" ∷ words) line) ((refl, (refl, tt)), tt)) is
 
 refused_means : (sizes : Result (List ℕ) BadKind) (line : Line) (P : Type 0) → shape_refused sizes ≡ Ok line → P
 refused_means (Ok sizes) line P is = cc

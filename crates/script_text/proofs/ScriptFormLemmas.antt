@@ -100,7 +100,7 @@ lines_step text texts past all number false false (Ok line) bad_is skipped_is re
       lines = line ∷ rest.lines;
       are = sym (append_assoc past (line ∷ []) rest.lines) ∙ rest.are;
       clean = rw bad_is rest.clean;
-      mean = rw skipped_is (means-line_of (words_of text) line read_is, rest.mean)
+      mean = rw skipped_is (means-line_of (words_of text) line read_is, rest.mean);
     }
 lines_step text texts past all number false false (Err kind) bad_is skipped_is read_is later is = cc
 
@@ -134,7 +134,7 @@ opened_step text texts plan number false false (Ok shape) bad_is skipped_is read
       others = kept_words texts;
       kept = rw skipped_is refl;
       shape = subst (MeansShape (words_of text)) rest.0 (means-shape_line (words_of text) shape read_is);
-      lines = subst (MeanLines (kept_words texts)) rest.1.are rest.1.mean
+      lines = subst (MeanLines (kept_words texts)) rest.1.are rest.1.mean;
     }
 opened_step text texts plan number false false (Err kind) bad_is skipped_is read_is later is = cc
 

@@ -45,15 +45,22 @@ IsWithin-tested shape is =
       blocks = size 64 shape.blocks e.1;
       groups = size 256 shape.groups f.1;
       clients = size 64 shape.clients g.1;
-      calls = size 16777215 shape.calls h.1
+      calls = size 16777215 shape.calls h.1;
     }
 
 is_within-yes : (shape : Shape) → IsWithin shape → is_within shape ≡ true
 unfolding is_within
 is_within-yes shape w =
-    rw (sized_yes 8 shape.nodes w.nodes.0 w.nodes.1, sized_yes 5 shape.replicas w.replicas.0 w.replicas.1, at_most_yes shape.replicas shape.nodes w.placed,
-      sized_yes 63 shape.regions w.regions.0 w.regions.1, sized_yes 64 shape.blocks w.blocks.0 w.blocks.1, sized_yes 256 shape.groups w.groups.0 w.groups.1,
-      sized_yes 64 shape.clients w.clients.0 w.clients.1, sized_yes 16777215 shape.calls w.calls.0 w.calls.1) refl
+    rw (
+      sized_yes 8 shape.nodes w.nodes.0 w.nodes.1,
+      sized_yes 5 shape.replicas w.replicas.0 w.replicas.1,
+      at_most_yes shape.replicas shape.nodes w.placed,
+      sized_yes 63 shape.regions w.regions.0 w.regions.1,
+      sized_yes 64 shape.blocks w.blocks.0 w.blocks.1,
+      sized_yes 256 shape.groups w.groups.0 w.groups.1,
+      sized_yes 64 shape.clients w.clients.0 w.clients.1,
+      sized_yes 16777215 shape.calls w.calls.0 w.calls.1,
+    ) refl
 
 numbers_read : (words : List (List ℕ)) (numbers : List ℕ) → StandFor words (map number numbers) → (numbers_of words ≡ Some numbers) × (length words ≡ length numbers)
 numbers_read [] [] stand = (refl, refl)

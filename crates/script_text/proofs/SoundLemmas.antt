@@ -68,7 +68,7 @@ short_step text texts others (line ∷ lines) false mean later =
     record {
       counted = All-cons IsCounted line lines mean.0.1 rest.counted;
       bytes = omega (arith, rest.bytes, first, bytes_in-words_of text, sum_by-cons (λ piece. length piece) text texts, sum_by-cons line_bytes line lines);
-      count = omega (arith, rest.count)
+      count = omega (arith, rest.count);
     }
 
 lines_short : (texts : List (List ℕ)) (lines : List Line) → MeanLines (kept_words texts) lines → AreShort texts (kept_words texts) lines
@@ -106,5 +106,5 @@ IsSound-means text plan means =
       counted = short.counted;
       lines = short.count;
       few = omega (arith, short.count, length-lines_of text);
-      bytes = omega (arith, short.bytes, bytes_in-lines_of text)
+      bytes = omega (arith, short.bytes, bytes_in-lines_of text);
     }

@@ -34,7 +34,7 @@ shape_of sizes = record {
   blocks = slice_index sizes 3;
   groups = slice_index sizes 4;
   clients = slice_index sizes 5;
-  calls = slice_index sizes 6
+  calls = slice_index sizes 6;
 }
 
 -- whether a size is 1 to this limit

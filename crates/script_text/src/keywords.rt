@@ -56,7 +56,10 @@ pub(crate) const KEYWORDS: [Keyword; 21] = [
 pub(crate) fn keyword_of(word: &[u8]) -> Option<Keyword>
     ensures { result ≡ keyword_of word.now }
 {
-    KEYWORDS.iter().copied().find(|keyword| name_of(*keyword) == word)
+    KEYWORDS
+        .iter()
+        .copied()
+        .find(|keyword| name_of(*keyword) == word)
 }
 
 fn name_of(keyword: Keyword) -> &'static [u8]

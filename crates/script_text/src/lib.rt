@@ -10,6 +10,8 @@ mod line_faults;
 mod line_reading;
 mod out_lines;
 mod script_reading;
+#[cfg(test)]
+mod script_tests;
 mod scripts;
 mod shape_reading;
 mod word_counts;

@@ -2,6 +2,7 @@ ghost use Rattle.std.specs.Prelude.{◌≡◌, ◌+◌, ◌≤◌, ◌<◌, ◌^
 ghost use Rattle.text_lines.specs.Lines.{lines_of};
 ghost use Rattle.script_text.specs.ScriptForm.{lines_after, reading_of};
 ghost use Rattle.script_text.specs.ScriptRead.{Gives, IsOpened, IsParsed, plan_of};
+ghost use Rattle.script_text.specs.declared.faults.ScriptFault.TheVariants.{BadLine};
 ghost use Rattle.script_text.specs.Sound.{IsSound};
 
 use crate::faults::{BadKind, ScriptFault};
@@ -41,24 +42,22 @@ fn opening(text: &[u8]) -> Result<(Shape, u32, &[u8]), ScriptFault>
     requires { length text.now ≤ MOST_BYTES }
     ensures { IsOpened text.now result }
 {
-    let mut number = 1;
+    let mut first = 1;
     let mut rest = text;
     while let Some((line, after)) = next_line(rest) {
         if has_bad_byte(line) {
-            let kind = BadKind::Byte;
-            return Err(ScriptFault::BadLine { number, kind });
+            return bad_line(first, BadKind::Byte);
         }
         if !is_skipped(line) {
             return match shape_line(line) {
-                Ok(shape) => Ok((shape, number + 1, after)),
-                Err(kind) => Err(ScriptFault::BadLine { number, kind }),
+                Ok(shape) => Ok((shape, first + 1, after)),
+                Err(kind) => bad_line(first, kind),
             };
         }
-        number += 1;
+        first += 1;
         rest = after;
     }
-    let kind = BadKind::NoShape;
-    Err(ScriptFault::BadLine { number, kind })
+    bad_line(first, BadKind::NoShape)
 }
 
 // Reads the lines of a text, whose first line has this number.
@@ -69,15 +68,14 @@ fn lines_after(alloc: Global, first: u32, text: &[u8]) -> Result<Vec<Line>, Scri
     let mut lines = Vec::new(alloc);
     let mut number = first;
     let mut rest = text;
-    while let Some((line, after)) = next_line(rest) {
-        if has_bad_byte(line) {
-            let kind = BadKind::Byte;
-            return Err(ScriptFault::BadLine { number, kind });
+    while let Some((spelled, after)) = next_line(rest) {
+        if has_bad_byte(spelled) {
+            return bad_line(number, BadKind::Byte);
         }
-        if !is_skipped(line) {
-            match line_of(alloc, line) {
+        if !is_skipped(spelled) {
+            match line_of(alloc, spelled) {
                 Ok(line) => lines.push(line)?,
-                Err(LineFault::Bad(kind)) => return Err(ScriptFault::BadLine { number, kind }),
+                Err(LineFault::Bad(kind)) => return bad_line(number, kind),
                 Err(LineFault::NoMemory) => return Err(ScriptFault::NoMemory),
             }
         }
@@ -85,4 +83,10 @@ fn lines_after(alloc: Global, first: u32, text: &[u8]) -> Result<Vec<Line>, Scri
         rest = after;
     }
     Ok(lines)
+}
+
+fn bad_line<T>(number: u32, kind: BadKind) -> Result<T, ScriptFault>
+    ensures { result ≡ Err (BadLine number kind) }
+{
+    Err(ScriptFault::BadLine { number, kind })
 }

@@ -5,8 +5,8 @@ use Rattle.script_text.proofs.script_reading.opening.Given as goal
 
 abbrev pub invariant-loop-line : goal.invariant-loop-line
 invariant-loop-line l = record {
-  read : reading_of l.text ≡ script_after l.number (lines_of l.rest);
-  counted : l.number + length l.rest ≤ length l.text + 1;
+  read : reading_of l.text ≡ script_after l.first (lines_of l.rest);
+  counted : l.first + length l.rest ≤ length l.text + 1;
 }
 
 abbrev pub decreases-loop-line : goal.decreases-loop-line
