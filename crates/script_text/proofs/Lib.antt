@@ -1,3 +1,4 @@
+pub mod FirstFaultLemmas
 pub mod LineFormLemmas
 pub mod LineMeaningLemmas
 pub mod ScriptFormLemmas

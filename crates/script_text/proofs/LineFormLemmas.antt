@@ -1,16 +1,9 @@
 -- The words of a line mean a line exactly where they are read as it.
-use Rattle.std.proofs.Common.{◌≡◌, ℕ, ◌≤◌, ◌==◌, Bool, true, false, List, [], ◌∷◌, length, Option, Some, None, Result, Ok, Err, refl, sym, ap, subst, ◌∙◌, arith}
-use Rattle.std.specs.Prelude.{if◌then◌else◌, bytes_eq, codes}
+use Rattle.std.proofs.Common.{◌≡◌, ℕ, ◌≤◌, ◌==◌, true, false, List, [], ◌∷◌, Ok, refl, ap, ◌∙◌, arith}
 use Rattle.std.proofs.lemmas.Bool.Decides.{nat_tests}
-use Rattle.text_lines.specs.Number.{number_of}
-use Rattle.script_text.specs.Keyword.{keyword_of, name_of}
+use Rattle.script_text.specs.Keyword.{keyword_of}
 use Rattle.script_text.specs.LineForm.{line_of}
-use Rattle.script_text.specs.Meaning.{IsCounted, MeansLine, Part, StandFor, StandsFor, form}
-use Rattle.script_text.specs.WordValue.{bytes_of, word_of}
-use Rattle.script_text.specs.declared.faults.BadKind.{BadKind}
-use Rattle.script_text.specs.declared.faults.BadKind.TheVariants as kind
-use Rattle.script_text.specs.declared.keywords.Keyword.{Keyword}
-use Rattle.script_text.specs.declared.keywords.Keyword.TheVariants as keyword
+use Rattle.script_text.specs.Meaning.{MeansLine, Part, StandFor, StandsFor, form}
 use Rattle.script_text.specs.declared.scripts.CallText.TheVariants as call
 use Rattle.script_text.specs.declared.scripts.Line.{Line}
 use Rattle.script_text.specs.declared.scripts.Line.TheVariants as line

@@ -1,5 +1,5 @@
 -- What a line is read as is what its words mean.
-use Rattle.std.proofs.Common.{◌≡◌, ℕ, ◌<◌, ◌≤◌, ◌==◌, Bool, true, false, List, [], ◌∷◌, length, Option, Some, None, Result, Ok, Err, refl, sym, ap, subst, ◌∙◌, arith}
+use Rattle.std.proofs.Common.{◌≡◌, ℕ, ◌≤◌, ◌==◌, Bool, true, false, List, [], ◌∷◌, Option, Some, None, Result, Ok, Err, refl, sym, subst, arith}
 use Rattle.std.specs.Prelude.{if◌then◌else◌, bytes_eq, codes}
 use Rattle.std.specs.List.{find}
 use Rattle.std.specs.Option.{option_map_or}
@@ -9,7 +9,7 @@ use Rattle.text_lines.specs.Number.{number_of}
 use Rattle.script_text.specs.Keyword.{keyword_of, name_of}
 use Rattle.script_text.specs.LineForm.{call_delete, call_get, call_line, call_put, count_due, delete_line, fill_line, fill_of, get_line, keyed, line_after, line_of, number_due, numbered, numbered_line, plain, put_line, step_line, step_of, task_line, valued, verbs_line, work_line}
 use Rattle.script_text.specs.Meaning.{MeansLine}
-use Rattle.script_text.specs.ShapeForm.{seven_numbers, shape_again, shape_refused}
+use Rattle.script_text.specs.ShapeForm.{seven_numbers, shape_refused}
 use Rattle.script_text.specs.WordValue.{bytes_of, word_of}
 use Rattle.script_text.specs.declared.faults.BadKind.{BadKind}
 use Rattle.script_text.specs.declared.faults.BadKind.TheVariants as kind

@@ -1,5 +1,5 @@
 -- What reading answers, in the words of the meaning.
-use Rattle.std.proofs.Common.{◌≡◌, ℕ, List, Result, Ok, Err, refl}
+use Rattle.std.proofs.Common.{ℕ, List, Result, Ok, Err, refl}
 use Rattle.std.specs.Prelude.{IfOk}
 use Rattle.script_text.specs.ScriptForm.{reading_of}
 use Rattle.script_text.specs.ScriptRead.{Gives, IsParsed, plan_of}

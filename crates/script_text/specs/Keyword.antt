@@ -1,5 +1,5 @@
 -- The first words of the lines of a script.
-use Rattle.std.specs.Prelude.{ℕ, List, [], ◌∷◌, codes, Option, bytes_eq}
+use Rattle.std.specs.Prelude.{ℕ, List, codes, Option, bytes_eq}
 use Rattle.std.specs.List.{find}
 use Rattle.script_text.specs.declared.keywords.Keyword.{Keyword}
 use Rattle.script_text.specs.declared.keywords.Keyword.TheVariants as keyword

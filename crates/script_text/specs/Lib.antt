@@ -1,3 +1,4 @@
+pub mod FirstFault
 pub mod Keyword
 pub mod LineForm
 pub mod LineRead

@@ -1,5 +1,5 @@
 -- What the words of a line of a script mean: the line, or the first kind of fault in the order Word, Count, Number, Hex, Shape.
-use Rattle.std.specs.Prelude.{ℕ, true, false, ◌==◌, if◌then◌else◌, List, [], ◌∷◌, codes, length, Option, Some, None, Result, Ok, Err, bytes_eq}
+use Rattle.std.specs.Prelude.{ℕ, true, false, ◌==◌, if◌then◌else◌, List, [], ◌∷◌, codes, Option, Some, None, Result, Ok, Err, bytes_eq}
 use Rattle.std.specs.Option.{option_map_or}
 use Rattle.text_lines.specs.Number.{number_of}
 use Rattle.script_text.specs.Keyword.{keyword_of}

@@ -1,5 +1,5 @@
 -- What reading a line answers.
-use Rattle.std.specs.Prelude.{◌≡◌, List, ℕ, Result, Ok, Err}
+use Rattle.std.specs.Prelude.{◌≡◌, Result, Ok, Err}
 use Rattle.script_text.specs.declared.faults.BadKind.{BadKind}
 use Rattle.script_text.specs.declared.line_faults.LineFault.{LineFault}
 use Rattle.script_text.specs.declared.line_faults.LineFault.TheVariants.{Bad, NoMemory}

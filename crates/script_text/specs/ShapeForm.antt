@@ -1,5 +1,5 @@
 -- What the words of a shape line mean.
-use Rattle.std.specs.Prelude.{◌≡◌, ℕ, ◌≤◌, Bool, ◌&&◌, ◌==◌, nat_le, if◌then◌else◌, List, [], ◌∷◌, codes, length, Option, Some, None, Result, Ok, Err, bytes_eq}
+use Rattle.std.specs.Prelude.{ℕ, ◌≤◌, Bool, ◌&&◌, ◌==◌, nat_le, if◌then◌else◌, List, [], ◌∷◌, codes, length, Option, Some, None, Result, Ok, Err, bytes_eq}
 use Rattle.std.specs.List.{slice_index}
 use Rattle.text_lines.specs.Number.{number_of}
 use Rattle.script_text.specs.declared.faults.BadKind.{BadKind}

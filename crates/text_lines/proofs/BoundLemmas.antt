@@ -1,7 +1,7 @@
 -- Lines and words have no more bytes than what they are read from, and there are no more lines than bytes.
-use Rattle.std.proofs.Common.{◌≡◌, ℕ, ◌+◌, ◌-◌, ◌<◌, ◌≤◌, ◌==◌, Bool, true, false, List, [], ◌∷◌, length, take, refl, sym, ap, ◌∙◌, arith, length-take}
+use Rattle.std.proofs.Common.{◌≡◌, ℕ, ◌+◌, ◌-◌, ◌<◌, ◌≤◌, ◌==◌, Bool, true, false, List, [], ◌∷◌, length, take, refl, ◌∙◌, arith, length-take}
 use Rattle.std.specs.Prelude.{if◌then◌else◌, cond}
-use Rattle.std.specs.List.{filter, onto_first, slice_index, slice_split, sum_by}
+use Rattle.std.specs.List.{filter, onto_first, slice_index, slice_split}
 use Rattle.std.proofs.lemmas.Bool.Decides.{nat_tests}
 use Rattle.std.proofs.lemmas.List.Splits.{length-slice_split}
 use Rattle.std.proofs.lemmas.List.Sums.{sum_by-cons}
@@ -66,7 +66,7 @@ fits (piece ∷ next ∷ pieces) some =
     let less = shorter (slice_index piece (length piece - 1) == 13) (length piece - 1) piece in
     record {
       bytes = rw more (omega (arith, rest.bytes, less, bytes_in-cons (without_return piece) (lines_of_pieces (next ∷ pieces)), bytes_in-cons piece (next ∷ pieces)));
-      count = rw more (omega (arith, rest.count, bytes_in-cons piece (next ∷ pieces)))
+      count = rw more (omega (arith, rest.count, bytes_in-cons piece (next ∷ pieces)));
     }
 
 pub bytes_in-lines_of : (text : List ℕ) → bytes_in (lines_of text) ≤ length text
