@@ -1,0 +1,11 @@
+pub mod FirstFault
+pub mod Keyword
+pub mod LineForm
+pub mod LineRead
+pub mod Meaning
+pub mod ScriptForm
+pub mod ScriptRead
+pub mod ShapeForm
+pub mod Sound
+pub mod WordCount
+pub mod WordValue

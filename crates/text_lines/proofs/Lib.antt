@@ -1,0 +1,5 @@
+pub mod BoundLemmas
+pub mod LineLemmas
+pub mod NumberLemmas
+pub mod PlaceLemmas
+pub mod WordLemmas

@@ -1,0 +1,5 @@
+pub mod Bound
+pub mod Cut
+pub mod Lines
+pub mod Number
+pub mod Words
