@@ -1,0 +1,11 @@
+pub mod AcceptedLemmas
+pub mod AnswerLemmas
+pub mod EarlyLemmas
+pub mod FencingLemmas
+pub mod FrontLemmas
+pub mod GrammarLemmas
+pub mod GrowthLemmas
+pub mod PastLemmas
+pub mod ReadingLemmas
+pub mod SafetyLemmas
+pub mod TextLemmas

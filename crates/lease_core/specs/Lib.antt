@@ -1,0 +1,10 @@
+pub mod Book
+pub mod Claims
+pub mod Grammar
+pub mod Holder
+pub mod Line
+pub mod LineTable
+pub mod Past
+pub mod Run
+pub mod Text
+pub mod Terms
