@@ -1,5 +1,5 @@
 -- A choosing stays one, its verbs go to places of the pool, and what it takes are objects of its class.
-use Rattle.std.proofs.Common.{◌≡◌, ◌≢◌, ℕ, zero, suc, ◌+◌, ◌-◌, ◌*◌, ◌/◌, ◌%◌, ◌^◌, ◌<◌, ◌≤◌, ◌==◌, ◌⊎◌, inl, inr, Bool, true, false, ◌&&◌, List, [], ◌∷◌, ◌++◌, length, get_or, Option, Some, None, refl, sym, ap, subst, ◌∙◌, arith, length-append, length-set, pow_pos}
+use Rattle.std.proofs.Common.{◌≡◌, ◌≢◌, ℕ, ◌+◌, ◌*◌, ◌/◌, ◌%◌, ◌^◌, ◌<◌, ◌≤◌, ◌==◌, ◌⊎◌, inl, inr, Bool, true, false, ◌&&◌, List, [], ◌∷◌, length, get_or, Option, Some, None, refl, sym, subst, ◌∙◌, arith, length-set, pow_pos}
 use Rattle.std.specs.Prelude.{All, bit_and, not, nat_le, nat_lt, slice_index_or, slice_set}
 use Rattle.std.proofs.lemmas.Bool.Decides.{eqb_tells, nat_tests}
 use Rattle.std.proofs.Math.Nat.{div-lt_iff_lt-mul, mod-lt}
@@ -9,7 +9,7 @@ use Rattle.block_alloc.specs.declared.BlockWord.{BlockWord}
 use Rattle.block_alloc.specs.declared.BlockWord.TheVariants.{Unused, Owned, Released}
 use Rattle.block_alloc.specs.BlockWord.{block_in}
 use Rattle.machine.specs.declared.choosing.Took.{Took}
-use Rattle.machine.specs.declared.choosing.Took.TheVariants.{Going, Have, NoSpace, Refused}
+use Rattle.machine.specs.declared.choosing.Took.TheVariants.{Going, Have, Refused}
 use Rattle.machine.specs.Choosing.{IsAt, IsChoosing, IsReady, IsTaken, asked, asks_after, asks_from, at_block, begins, bitmap_at_block, block_at, chooses, first_awaited, goes_to, looks, next, next_block, no_block, not_awaited, on_block, on_block_word, on_first, on_scan, own_at, owns, region_at, rests, ripens, scanned_all, spreads_from, taken, takes, turn, turn_at, verb_at, with_awaited, with_block, with_scanned, word_at_block}
 use Rattle.machine.specs.EpochRead.{IsView}
 use Rattle.machine.specs.ObjectNames.{names_object}
@@ -23,7 +23,7 @@ use Rattle.object_form.specs.declared.classes.TheConstants.{CLASSES}
 use Rattle.region_view.specs.Control.{Begin, EpochWord, Head}
 use Rattle.region_view.specs.Layout.{Bitmap, HasWord, NodeWord, region_of_word}
 use Rattle.region_view.specs.Placed.{Viewed}
-use Rattle.region_view.specs.Sizes.{IsWithinLimits, Sizes}
+use Rattle.region_view.specs.Sizes.{Sizes}
 use Rattle.reuse_epoch.specs.Awaited.{Awaited, begin_of, client_of, is_still_awaited, noted, still_awaited}
 use Rattle.verb_words.specs.declared.verbs.Answer.{Answer}
 use Rattle.verb_words.specs.declared.verbs.Answer.TheVariants.{Word, Done, Lost}
@@ -46,12 +46,17 @@ with_class_stock-ready : (view : Viewed) (client class : ℕ) (stock : Stock) (o
     → IsReady view client class (with_class_stock stock of_class)
 with_class_stock-ready view client class stock of_class is new = record {
   is_stock = record {
-    owner = is.is_stock.owner; shape = is.is_stock.shape;
+    owner = is.is_stock.owner;
+    shape = is.is_stock.shape;
     whole = length-set stock.classes stock.class of_class ∙ is.is_stock.whole;
     classes = let P : ℕ → Type 0 = λ n. (other : ℕ) → other < CLASSES → IsClassStock view.shape other (slice_index_or (slice_set stock.classes n of_class) other no_stock) in
         subst P (sym is.same) (with_class-is view.shape client class of_class stock.classes is.is_stock.whole is.below is.is_stock.classes new);
   };
-  is_view = is.is_view; number = is.number; held = is.held; same = is.same; below = is.below;
+  is_view = is.is_view;
+  number = is.number;
+  held = is.held;
+  same = is.same;
+  below = is.below;
 }
 
 -- the chosen class has the stock that it was given
@@ -64,7 +69,11 @@ other_marks : (view : Viewed) (client class : ℕ) (stock : Stock) (scanned : Bo
     → IsReady view client class (record stock { scanned = scanned; position = position; phase = phase })
 other_marks view client class stock scanned position phase is = record {
   is_stock = record { owner = is.is_stock.owner; shape = is.is_stock.shape; whole = is.is_stock.whole; classes = is.is_stock.classes };
-  is_view = is.is_view; number = is.number; held = is.held; same = is.same; below = is.below;
+  is_view = is.is_view;
+  number = is.number;
+  held = is.held;
+  same = is.same;
+  below = is.below;
 }
 
 with_awaited-ready : (view : Viewed) (client class : ℕ) (stock : Stock) (awaited : List Awaited) → IsReady view client class stock → All (IsAwaitedIn view.shape) awaited
@@ -85,9 +94,10 @@ rests-turned view client class stock told is good =
 
 at_block-turned : (view : Viewed) (client class : ℕ) (stock : Stock) → IsReady view client class stock → IsTurned view client class (at_block stock)
 at_block-turned view client class stock is = by (nat_lt stock.position (stock.shape.regions * stock.shape.blocks)) refl
-  where by : (t : Bool) → nat_lt stock.position (stock.shape.regions * stock.shape.blocks) ≡ t → IsTurned view client class (at_block stock)
-        by true within = rw within (goes_to-turned view client class stock ReadBlock is (grind (arith, nat_tests)))
-        by false last = rw last (rests-turned view client class stock _ is tt)
+  where
+    by : (t : Bool) → nat_lt stock.position (stock.shape.regions * stock.shape.blocks) ≡ t → IsTurned view client class (at_block stock)
+    by true within = rw within (goes_to-turned view client class stock ReadBlock is (grind (arith, nat_tests)))
+    by false last = rw last (rests-turned view client class stock _ is tt)
 
 next_block-turned : (view : Viewed) (client class : ℕ) (stock : Stock) → IsReady view client class stock → IsTurned view client class (next_block stock)
 next_block-turned view client class stock is =
@@ -95,30 +105,36 @@ next_block-turned view client class stock is =
 
 takes-turned : (view : Viewed) (client class : ℕ) (stock : Stock) (free : ℕ) → IsReady view client class stock → names_object view.shape class free ≡ true → IsTurned view client class (takes stock free)
 takes-turned view client class stock free is named = by (class_stock stock).reserve refl
-  where before : IsClassStock view.shape class (class_stock stock)
-        before = class_stock-is view client class stock is
-        by : (reserve : Option ℕ) → (class_stock stock).reserve ≡ reserve → IsTurned view client class (takes stock free)
-        by (Some reserve) some = rw some (rests-turned view client class stock (Have reserve free) is (before.reserve reserve some, named))
-        by None none = rw none (goes_to-turned view client class _ WriteHead
-            (with_class_stock-ready view client class stock _ is (record {
-              own = before.own; reserve = λ pointer same. subst (λ p. names_object view.shape class p ≡ true) (some_same same) named; awaited = before.awaited;
-            })) tt)
+  where
+    before : IsClassStock view.shape class (class_stock stock)
+    before = class_stock-is view client class stock is
+
+    by : (reserve : Option ℕ) → (class_stock stock).reserve ≡ reserve → IsTurned view client class (takes stock free)
+    by (Some reserve) some = rw some (rests-turned view client class stock (Have reserve free) is (before.reserve reserve some, named))
+    by None none = rw none (goes_to-turned view client class _ WriteHead
+        (with_class_stock-ready view client class stock _ is (record {
+          own = before.own;
+          reserve = λ pointer same. subst (λ p. names_object view.shape class p ≡ true) (some_same same) named;
+          awaited = before.awaited;
+        })) tt)
 
 looks-turned : (view : Viewed) (client class : ℕ) (stock : Stock) → IsReady view client class stock → IsTurned view client class (looks stock)
 looks-turned view client class stock is = by (nat_lt 0 (length (class_stock stock).awaited)) refl (not stock.scanned && nat_lt 0 (length (class_stock stock).own)) refl
-  where by : (t : Bool) → nat_lt 0 (length (class_stock stock).awaited) ≡ t → (u : Bool) → (not stock.scanned && nat_lt 0 (length (class_stock stock).own)) ≡ u → IsTurned view client class (looks stock)
-        by true some u scan = rw some (goes_to-turned view client class stock AskFirst is (grind (arith, nat_tests)))
-        by false none true scan = rw (none, scan) (goes_to-turned view client class stock (Scan 0) is (grind (arith, nat_tests)))
-        by false none false done = rw (none, done) (at_block-turned view client class stock is)
+  where
+    by : (t : Bool) → nat_lt 0 (length (class_stock stock).awaited) ≡ t → (u : Bool) → (not stock.scanned && nat_lt 0 (length (class_stock stock).own)) ≡ u → IsTurned view client class (looks stock)
+    by true some u scan = rw some (goes_to-turned view client class stock AskFirst is (grind (arith, nat_tests)))
+    by false none true scan = rw (none, scan) (goes_to-turned view client class stock (Scan 0) is (grind (arith, nat_tests)))
+    by false none false done = rw (none, done) (at_block-turned view client class stock is)
 
 pub chooses-turned : (view : Viewed) (client class : ℕ) (stock : Stock) → IsReady view client class stock → IsTurned view client class (chooses stock)
 chooses-turned view client class stock is = by (first_free stock.class (class_stock stock)) refl
-  where by : (free : Option ℕ) → first_free stock.class (class_stock stock) ≡ free → IsTurned view client class (chooses stock)
-        by None none = rw none (looks-turned view client class stock is)
-        by (Some free) some =
-            let P : ℕ → Type 0 = λ n. first_free n (class_stock stock) ≡ Some free in
-            rw some (takes-turned view client class stock free is
-                (first_free-named view.shape class (class_stock stock) free is.is_view.limits is.below (class_stock-is view client class stock is) (subst P is.same some)))
+  where
+    by : (free : Option ℕ) → first_free stock.class (class_stock stock) ≡ free → IsTurned view client class (chooses stock)
+    by None none = rw none (looks-turned view client class stock is)
+    by (Some free) some =
+        let P : ℕ → Type 0 = λ n. first_free n (class_stock stock) ≡ Some free in
+        rw some (takes-turned view client class stock free is
+        (first_free-named view.shape class (class_stock stock) free is.is_view.limits is.below (class_stock-is view client class stock is) (subst P is.same some)))
 
 -- a new choosing
 pub begins-turned : (view : Viewed) (client class : ℕ) (stock : Stock) → IsStock view.shape client stock → IsView view → (1 ≤ client) × (client ≤ view.shape.clients) → class < CLASSES
@@ -126,7 +142,11 @@ pub begins-turned : (view : Viewed) (client class : ℕ) (stock : Stock) → IsS
 begins-turned view client class stock is is_view number below =
     chooses-turned view client class (record stock { mask = view.mask; class = class; scanned = false; position = 0 }) (record {
       is_stock = record { owner = is.owner; shape = is.shape; whole = is.whole; classes = is.classes };
-      is_view = is_view; number = number; held = refl; same = refl; below = below;
+      is_view = is_view;
+      number = number;
+      held = refl;
+      same = refl;
+      below = below;
     })
 
 ripens-turned : (view : Viewed) (client class : ℕ) (stock : Stock) → IsReady view client class stock → IsTurned view client class (ripens stock)
@@ -135,44 +155,51 @@ ripens-turned view client class stock is =
 
 asked-turned : (view : Viewed) (client class : ℕ) (stock : Stock) → IsReady view client class stock → IsTurned view client class (asked stock)
 asked-turned view client class stock is = by (length (class_stock stock).awaited == 0) refl
-  where by : (t : Bool) → (length (class_stock stock).awaited == 0) ≡ t → IsTurned view client class (asked stock)
-        by true none = rw none (ripens-turned view client class stock is)
-        by false some = rw some (at_block-turned view client class stock is)
+  where
+    by : (t : Bool) → (length (class_stock stock).awaited == 0) ≡ t → IsTurned view client class (asked stock)
+    by true none = rw none (ripens-turned view client class stock is)
+    by false some = rw some (at_block-turned view client class stock is)
 
 asks_after-turned : (view : Viewed) (client class : ℕ) (stock : Stock) (number : ℕ) → IsReady view client class stock → 1 ≤ number → IsTurned view client class (asks_after stock number)
 asks_after-turned view client class stock number is some = by (nat_le number stock.shape.clients) refl
-  where by : (t : Bool) → nat_le number stock.shape.clients ≡ t → IsTurned view client class (asks_after stock number)
-        by true within = rw within (goes_to-turned view client class stock (Ask number) is (some, grind (arith, nat_tests)))
-        by false beyond = rw beyond (asked-turned view client class stock is)
+  where
+    by : (t : Bool) → nat_le number stock.shape.clients ≡ t → IsTurned view client class (asks_after stock number)
+    by true within = rw within (goes_to-turned view client class stock (Ask number) is (some, grind (arith, nat_tests)))
+    by false beyond = rw beyond (asked-turned view client class stock is)
 
 asks_from-turned : (view : Viewed) (client class : ℕ) (stock : Stock) (number : ℕ) → IsReady view client class stock → 1 ≤ number → IsTurned view client class (asks_from stock number)
 asks_from-turned view client class stock number is some = by (number == stock.client) refl
-  where by : (t : Bool) → (number == stock.client) ≡ t → IsTurned view client class (asks_from stock number)
-        by true own = rw own (asks_after-turned view client class stock (number + 1) is (omega arith))
-        by false other = rw other (asks_after-turned view client class stock number is some)
+  where
+    by : (t : Bool) → (number == stock.client) ≡ t → IsTurned view client class (asks_from stock number)
+    by true own = rw own (asks_after-turned view client class stock (number + 1) is (omega arith))
+    by false other = rw other (asks_after-turned view client class stock number is some)
 
 not_awaited-turned : (view : Viewed) (client class : ℕ) (stock : Stock) → IsReady view client class stock → IsTurned view client class (not_awaited stock)
 not_awaited-turned view client class stock is = by (length (class_stock stock).awaited == 0) refl
-  where by : (t : Bool) → (length (class_stock stock).awaited == 0) ≡ t → IsTurned view client class (not_awaited stock)
-        by true none = rw none (ripens-turned view client class stock is)
-        by false some = rw some (goes_to-turned view client class stock AskFirst is (grind (arith, nat_tests)))
+  where
+    by : (t : Bool) → (length (class_stock stock).awaited == 0) ≡ t → IsTurned view client class (not_awaited stock)
+    by true none = rw none (ripens-turned view client class stock is)
+    by false some = rw some (goes_to-turned view client class stock AskFirst is (grind (arith, nat_tests)))
 
 on_first-turned : (view : Viewed) (client class : ℕ) (stock : Stock) (found : ℕ) → IsReady view client class stock → IsTurned view client class (on_first stock found)
 on_first-turned view client class stock found is = by (found == begin_of (first_awaited stock)) refl
-  where awaited : List Awaited
-        awaited = still_awaited (class_stock stock).awaited (client_of (first_awaited stock)) found
-        by : (t : Bool) → (found == begin_of (first_awaited stock)) ≡ t → IsTurned view client class (on_first stock found)
-        by true same = rw same (at_block-turned view client class stock is)
-        by false other = rw other (not_awaited-turned view client class (with_awaited stock awaited)
-            (with_awaited-ready view client class stock awaited is
-                (All-filter (is_still_awaited (client_of (first_awaited stock)) found) (IsAwaitedIn view.shape) (class_stock stock).awaited (class_stock-is view client class stock is).awaited)))
+  where
+    awaited : List Awaited
+    awaited = still_awaited (class_stock stock).awaited (client_of (first_awaited stock)) found
+
+    by : (t : Bool) → (found == begin_of (first_awaited stock)) ≡ t → IsTurned view client class (on_first stock found)
+    by true same = rw same (at_block-turned view client class stock is)
+    by false other = rw other (not_awaited-turned view client class (with_awaited stock awaited)
+        (with_awaited-ready view client class stock awaited is
+        (All-filter (is_still_awaited (client_of (first_awaited stock)) found) (IsAwaitedIn view.shape) (class_stock stock).awaited (class_stock-is view client class stock is).awaited)))
 
 -- one own block is replaced
 own-set : (sizes : Sizes) (class i : ℕ) (own : List OwnBlock) (new : OwnBlock) → All (IsOwn sizes class) own → IsOwn sizes class new → i < length own → All (IsOwn sizes class) (slice_set own i new)
 own-set sizes class i own new all is below = λ k d under. by k d (omega (arith, length-set own i new)) (eqb_tells k i)
-  where by : (k : ℕ) (d : OwnBlock) → k < length own → (((k == i) ≡ true) × (k ≡ i)) ⊎ (((k == i) ≡ false) × (k ≢ i)) → IsOwn sizes class (get_or (slice_set own i new) k d)
-        by k d under (inl (test, same)) = let P : ℕ → Type 0 = λ n. IsOwn sizes class (get_or (slice_set own i new) n d) in subst P (sym same) (rw (get_or-set_same own i new d below) is)
-        by k d under (inr (test, differ)) = rw (get_or-set_other own i k new d differ) (all k d under)
+  where
+    by : (k : ℕ) (d : OwnBlock) → k < length own → (((k == i) ≡ true) × (k ≡ i)) ⊎ (((k == i) ≡ false) × (k ≢ i)) → IsOwn sizes class (get_or (slice_set own i new) k d)
+    by k d under (inl (test, same)) = let P : ℕ → Type 0 = λ n. IsOwn sizes class (get_or (slice_set own i new) n d) in subst P (sym same) (rw (get_or-set_same own i new d below) is)
+    by k d under (inr (test, differ)) = rw (get_or-set_other own i k new d differ) (all k d under)
 
 with_scanned-ready : (view : Viewed) (client class : ℕ) (stock : Stock) (i found : ℕ) → IsReady view client class stock → i < length (class_stock stock).own → IsReady view client class (with_scanned stock i found)
 with_scanned-ready view client class stock i found is below =
@@ -180,20 +207,24 @@ with_scanned-ready view client class stock i found is below =
     let P : ℕ → Type 0 = λ n. IsOwn view.shape class (scanned_block n (class_stock stock) (own_at stock i) found) in
     let new = subst P (sym is.same) (scanned_block-is view.shape class found (class_stock stock) (own_at stock i) (before.own i no_block below)) in
     with_class_stock-ready view client class stock _ is (record {
-      own = own-set view.shape class i (class_stock stock).own _ before.own new below; reserve = before.reserve; awaited = before.awaited;
+      own = own-set view.shape class i (class_stock stock).own _ before.own new below;
+      reserve = before.reserve;
+      awaited = before.awaited;
     })
 
 scanned_all-turned : (view : Viewed) (client class : ℕ) (stock : Stock) → IsReady view client class stock → IsTurned view client class (scanned_all stock)
 scanned_all-turned view client class stock is = by (any_waits (class_stock stock)) refl
-  where by : (t : Bool) → any_waits (class_stock stock) ≡ t → IsTurned view client class (scanned_all stock)
-        by true some = rw some (asks_from-turned view client class stock 1 is (omega arith))
-        by false none = rw none (at_block-turned view client class stock is)
+  where
+    by : (t : Bool) → any_waits (class_stock stock) ≡ t → IsTurned view client class (scanned_all stock)
+    by true some = rw some (asks_from-turned view client class stock 1 is (omega arith))
+    by false none = rw none (at_block-turned view client class stock is)
 
 on_scan-turned : (view : Viewed) (client class : ℕ) (stock : Stock) (i : ℕ) → IsReady view client class stock → IsTurned view client class (on_scan stock i)
 on_scan-turned view client class stock i is = by (nat_lt (i + 1) (length (class_stock stock).own)) refl
-  where by : (t : Bool) → nat_lt (i + 1) (length (class_stock stock).own) ≡ t → IsTurned view client class (on_scan stock i)
-        by true more = rw more (goes_to-turned view client class stock (Scan (i + 1)) is (grind (arith, nat_tests)))
-        by false last = rw last (scanned_all-turned view client class _ (other_marks view client class stock true stock.position stock.phase is))
+  where
+    by : (t : Bool) → nat_lt (i + 1) (length (class_stock stock).own) ≡ t → IsTurned view client class (on_scan stock i)
+    by true more = rw more (goes_to-turned view client class stock (Scan (i + 1)) is (grind (arith, nat_tests)))
+    by false last = rw last (scanned_all-turned view client class _ (other_marks view client class stock true stock.position stock.phase is))
 
 -- the block at the position is a block of the pool
 block_within : (position regions blocks : ℕ) → 1 ≤ blocks → position < regions * blocks → (1 + position / blocks ≤ regions) × (position % blocks < blocks)
@@ -210,11 +241,11 @@ with_block-ready view client class stock ripe waiting is within below below' =
     let Q : Sizes → Type 0 = λ s. IsOwn s class gained in
     let new : IsOwn view.shape class gained = subst Q same (record { region = (omega arith, here.0); block = here.1; ripe = below; waiting = below' }) in
     other_marks view client class _ stock.scanned (stock.position + 1) stock.phase
-        (with_class_stock-ready view client class stock _ is (record {
-          own = All-append (IsOwn view.shape class) (class_stock stock).own (gained ∷ []) before.own (λ k d under. let first : k ≡ 0 = omega arith in rw first new);
-          reserve = before.reserve;
-          awaited = before.awaited;
-        }))
+    (with_class_stock-ready view client class stock _ is (record {
+      own = All-append (IsOwn view.shape class) (class_stock stock).own (gained ∷ []) before.own (λ k d under. let first : k ≡ 0 = omega arith in rw first new);
+      reserve = before.reserve;
+      awaited = before.awaited;
+    }))
 
 owns-turned : (view : Viewed) (client class : ℕ) (stock : Stock) (unused : Bool) → IsReady view client class stock → stock.position < stock.shape.regions * stock.shape.blocks → IsTurned view client class (owns stock unused)
 owns-turned view client class stock true is within =
@@ -225,36 +256,41 @@ owns-turned view client class stock false is within = goes_to-turned view client
 spreads_from-turned : (view : Viewed) (client class : ℕ) (stock : Stock) (unused : Bool) (backup : ℕ) → IsReady view client class stock → stock.position < stock.shape.regions * stock.shape.blocks
     → IsTurned view client class (spreads_from stock unused backup)
 spreads_from-turned view client class stock unused backup is within = by (nat_lt (backup + 1) (replica_count (view_of stock) (word_at_block stock))) refl
-  where by : (t : Bool) → nat_lt (backup + 1) (replica_count (view_of stock) (word_at_block stock)) ≡ t → IsTurned view client class (spreads_from stock unused backup)
-        by true more = rw more (goes_to-turned view client class stock (Spread unused backup) is (within, grind (arith, nat_tests)))
-        by false last = rw last (owns-turned view client class stock unused is within)
+  where
+    by : (t : Bool) → nat_lt (backup + 1) (replica_count (view_of stock) (word_at_block stock)) ≡ t → IsTurned view client class (spreads_from stock unused backup)
+    by true more = rw more (goes_to-turned view client class stock (Spread unused backup) is (within, grind (arith, nat_tests)))
+    by false last = rw last (owns-turned view client class stock unused is within)
 
 on_block-turned : (view : Viewed) (client class : ℕ) (stock : Stock) (found : ℕ) (block : Option BlockWord) → IsReady view client class stock → stock.position < stock.shape.regions * stock.shape.blocks
     → IsTurned view client class (on_block stock found block)
 on_block-turned view client class stock found None is within = next_block-turned view client class stock is
 on_block-turned view client class stock found (Some Unused) is within = goes_to-turned view client class stock (Claim found) is within
 on_block-turned view client class stock found (Some (Released other)) is within = by (other == stock.class) refl
-  where by : (t : Bool) → (other == stock.class) ≡ t → IsTurned view client class (on_block stock found (Some (Released other)))
-        by true same = rw same (goes_to-turned view client class stock (Claim found) is within)
-        by false differ = rw differ (next_block-turned view client class stock is)
+  where
+    by : (t : Bool) → (other == stock.class) ≡ t → IsTurned view client class (on_block stock found (Some (Released other)))
+    by true same = rw same (goes_to-turned view client class stock (Claim found) is within)
+    by false differ = rw differ (next_block-turned view client class stock is)
 on_block-turned view client class stock found (Some (Owned owner other)) is within = by ((owner == stock.client) && (other == stock.class)) refl
-  where by : (t : Bool) → ((owner == stock.client) && (other == stock.class)) ≡ t → IsTurned view client class (on_block stock found (Some (Owned owner other)))
-        by true own = rw own (spreads_from-turned view client class stock false 0 is within)
-        by false differ = rw differ (next_block-turned view client class stock is)
+  where
+    by : (t : Bool) → ((owner == stock.client) && (other == stock.class)) ≡ t → IsTurned view client class (on_block stock found (Some (Owned owner other)))
+    by true own = rw own (spreads_from-turned view client class stock false 0 is within)
+    by false differ = rw differ (next_block-turned view client class stock is)
 
 on_block_word-turned : (view : Viewed) (client class : ℕ) (stock : Stock) (found : ℕ) → IsReady view client class stock → stock.position < stock.shape.regions * stock.shape.blocks
     → IsTurned view client class (on_block_word stock found)
 on_block_word-turned view client class stock found is within = by (is_own stock (region_at stock) (block_at stock)) refl
-  where by : (t : Bool) → is_own stock (region_at stock) (block_at stock) ≡ t → IsTurned view client class (on_block_word stock found)
-        by true own = rw own (next_block-turned view client class stock is)
-        by false other = rw other (on_block-turned view client class stock found (block_in found) is within)
+  where
+    by : (t : Bool) → is_own stock (region_at stock) (block_at stock) ≡ t → IsTurned view client class (on_block_word stock found)
+    by true own = rw own (next_block-turned view client class stock is)
+    by false other = rw other (on_block-turned view client class stock found (block_in found) is within)
 
 -- the clients that are noted are clients of the pool
 noted-all : (sizes : Sizes) (awaited : List Awaited) (client begin : ℕ) → All (IsAwaitedIn sizes) awaited → (1 ≤ client) × (client ≤ sizes.clients) → All (IsAwaitedIn sizes) (noted awaited client begin)
 noted-all sizes awaited client begin all within = by (begin % 2 == 1) refl
-  where by : (t : Bool) → (begin % 2 == 1) ≡ t → All (IsAwaitedIn sizes) (noted awaited client begin)
-        by true odd = rw odd (All-append (IsAwaitedIn sizes) awaited ((client, begin) ∷ []) all (λ k d under. let first : k ≡ 0 = omega arith in rw first within))
-        by false even = rw even all
+  where
+    by : (t : Bool) → (begin % 2 == 1) ≡ t → All (IsAwaitedIn sizes) (noted awaited client begin)
+    by true odd = rw odd (All-append (IsAwaitedIn sizes) awaited ((client, begin) ∷ []) all (λ k d under. let first : k ≡ 0 = omega arith in rw first within))
+    by false even = rw even all
 
 stays-turned : (view : Viewed) (client class : ℕ) (stock : Stock) (told : Took) → IsChoosing view client class stock → IsTaken view.shape class told → IsTurned view client class (record { state = stock; told = told })
 stays-turned view client class stock told is good = record { choosing = is; taken = good }
@@ -270,21 +306,22 @@ turn_at-turned view client class stock (Ask number) (Word found) at is =
     let here = at_of view client class stock (Ask number) at is in
     let P : Sizes → Type 0 = λ s. number ≤ s.clients in
     asks_from-turned view client class _ (number + 1)
-        (with_awaited-ready view client class stock _ is.ready
-            (noted-all view.shape (class_stock stock).awaited number found (class_stock-is view client class stock is.ready).awaited (here.0, subst P is.ready.is_stock.shape here.1))) (omega arith)
+    (with_awaited-ready view client class stock _ is.ready
+    (noted-all view.shape (class_stock stock).awaited number found (class_stock-is view client class stock is.ready).awaited (here.0, subst P is.ready.is_stock.shape here.1))) (omega arith)
 turn_at-turned view client class stock ReadBlock (Word found) at is = on_block_word-turned view client class stock found is.ready (at_of view client class stock ReadBlock at is)
 turn_at-turned view client class stock (Claim word) (Word found) at is = by (found == word) refl
-  where by : (t : Bool) → (found == word) ≡ t → IsTurned view client class (turn_at (Claim word) stock (Word found))
-        by true swapped = rw swapped (spreads_from-turned view client class stock (word == 0) 0 is.ready (at_of view client class stock (Claim word) at is))
-        by false lost = rw lost (next_block-turned view client class stock is.ready)
+  where
+    by : (t : Bool) → (found == word) ≡ t → IsTurned view client class (turn_at (Claim word) stock (Word found))
+    by true swapped = rw swapped (spreads_from-turned view client class stock (word == 0) 0 is.ready (at_of view client class stock (Claim word) at is))
+    by false lost = rw lost (next_block-turned view client class stock is.ready)
 turn_at-turned view client class stock (Spread unused backup) Done at is = spreads_from-turned view client class stock unused (backup + 1) is.ready (at_of view client class stock (Spread unused backup) at is).0
 turn_at-turned view client class stock ReadBitmap (Word found) at is =
     let P : ℕ → Type 0 = λ n. bit_and found (object_bits n) < 2 ^ (64 / units_of class) in
     let bits = subst P (sym is.ready.same) (bit_and-below found (object_bits class) (2 ^ (64 / units_of class)) (object_bits-below class)) in
     asks_from-turned view client class _ 1
-        (with_awaited-ready view client class _ []
-            (with_block-ready view client class stock 0 _ is.ready (at_of view client class stock ReadBitmap at is) (pow_pos (64 / units_of class)) bits)
-            (λ k d under. absurd (omega arith))) (omega arith)
+    (with_awaited-ready view client class _ []
+    (with_block-ready view client class stock 0 _ is.ready (at_of view client class stock ReadBitmap at is) (pow_pos (64 / units_of class)) bits)
+    (λ k d under. absurd (omega arith))) (omega arith)
 turn_at-turned view client class stock WriteHead Done at is =
     let P : ℕ → Type 0 = λ mask. IsTurned view client class (begins stock mask stock.class) in
     let Q : ℕ → Type 0 = λ n. IsTurned view client class (begins stock view.mask n) in
@@ -316,7 +353,8 @@ turn-turned view client class stock answer is = turn_at-turned view client class
 -- the stock once the next reserve is the reserve
 pub taken-is : (sizes : Sizes) (client class next : ℕ) (stock : Stock) → IsStock sizes client stock → class < CLASSES → names_object sizes class next ≡ true → IsStock sizes client (taken stock class next)
 taken-is sizes client class next stock is below named = record {
-  owner = is.owner; shape = is.shape;
+  owner = is.owner;
+  shape = is.shape;
   whole = length-set stock.classes class (with_reserve class (slice_index_or stock.classes class no_stock) next) ∙ is.whole;
   classes = with_class-is sizes client class _ stock.classes is.whole below is.classes (with_reserve-is sizes class next _ (is.classes class below) named);
 }

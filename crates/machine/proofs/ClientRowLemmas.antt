@@ -1,22 +1,12 @@
 -- A client stays one, whatever its verbs are answered: row by row.
-use Rattle.std.proofs.Common.{◌≡◌, ℕ, zero, suc, ◌+◌, ◌-◌, ◌*◌, ◌%◌, ◌^◌, ◌<◌, ◌≤◌, ◌==◌, ◌⊎◌, inl, inr, Bool, true, false, List, [], ◌∷◌, ◌++◌, length, get_or, map, filter, find, take, Option, Some, None, if◌then◌else◌, refl, sym, ap, subst, ◌∙◌, arith, length-append}
-use Rattle.std.specs.Prelude.{All, not, slice_index, slice_index_or}
-use Rattle.std.specs.List.{enumerate_from, range_with_len}
-use Rattle.std.proofs.Math.ListN.{get_or-append}
-use Rattle.std.proofs.Math.Seq.{get_or-append_seam}
-use Rattle.std.proofs.lemmas.Bool.{cases_lt}
+use Rattle.std.proofs.Common.{◌≡◌, ℕ, ◌+◌, ◌%◌, ◌^◌, ◌<◌, ◌==◌, Bool, true, false, length, Option, Some, None, refl, subst, arith}
 use Rattle.std.proofs.lemmas.Bool.Decides.{nat_tests}
-use Rattle.std.proofs.lemmas.Slice.Eq.{bytes_eq-Decides}
-use Rattle.std.specs.Str.{bytes_eq}
-use Rattle.std.proofs.lemmas.List.Elements.{All-append, All-filter, All-from_get_or, All-get_or, All-take}
-use Rattle.std.proofs.lemmas.List.FromFn.{get_or-enumerate_from, length-enumerate_from, length-map-range_with_len}
 use Rattle.machine.specs.declared.bit_change.Changed.{Changed}
 use Rattle.machine.specs.declared.bit_change.Changed.TheVariants as changed
 use Rattle.machine.specs.declared.choosing.Took.{Took}
 use Rattle.machine.specs.declared.choosing.Took.TheVariants as took
 use Rattle.machine.specs.declared.client_call.Outcome.{Outcome}
 use Rattle.machine.specs.declared.client_call.Outcome.TheVariants as outcome
-use Rattle.machine.specs.declared.client_call.Step.{Step}
 use Rattle.machine.specs.declared.key_search.Found.{Found}
 use Rattle.machine.specs.declared.key_search.Found.TheVariants as found_as
 use Rattle.machine.specs.declared.key_test.Tested.{Tested}
@@ -29,31 +19,23 @@ use Rattle.machine.specs.declared.slot_write.Wrote.{Wrote}
 use Rattle.machine.specs.declared.slot_write.Wrote.TheVariants as wrote
 use Rattle.machine.specs.declared.value_read.Fetched.{Fetched}
 use Rattle.machine.specs.declared.value_read.Fetched.TheVariants as fetched_as
-use Rattle.machine.specs.BitChange as bits
 use Rattle.machine.specs.BitChange.{BitChange, IsBitChange}
 use Rattle.machine.specs.Choosing as choosing
 use Rattle.machine.specs.Choosing.{IsChoosing, IsTaken}
-use Rattle.machine.specs.Client.{absent, chooses, chooses_for, cleared, ends, fetches, finds_at, finds_on, first_turn, frees_again, fresh_of, gives_back, goes_to, idles, is_beaten, kept_of, kind_of, link_of, logs, next, on_body, on_changed, on_choosing, on_clear, on_epoch, on_fetch, on_find, on_free, on_kind, on_log, on_lost, on_paused, on_resolved, on_return, on_round, on_searching, on_seek, on_test, on_took, on_value, on_version, on_wrote, own_object, refused, remembers, resolution_for, resumes, resumes_with, search_of, slot_of, stays, turn, turn_at, verb_at, view_of, won, write_body}
-use Rattle.machine.specs.EpochRead.{IsView, leaves_none_bare, mask_of, open_mask}
+use Rattle.machine.specs.Client.{absent, chooses, chooses_for, cleared, ends, fetches, finds_at, finds_on, first_turn, frees_again, fresh_of, gives_back, goes_to, is_beaten, kept_of, logs, next, on_body, on_changed, on_choosing, on_clear, on_epoch, on_fetch, on_find, on_free, on_kind, on_log, on_lost, on_paused, on_resolved, on_return, on_round, on_searching, on_seek, on_test, on_took, on_value, on_version, on_wrote, own_object, refused, remembers, resumes, resumes_with, search_of, slot_of, turn, view_of, won}
+use Rattle.machine.specs.EpochRead.{IsView, open_mask}
 use Rattle.machine.specs.KeySearch as search
 use Rattle.machine.specs.KeySearch.{IsKeySearch, KeySearch}
-use Rattle.machine.specs.KeyTest as test
 use Rattle.machine.specs.KeyTest.{IsKeyTest, KeyTest}
-use Rattle.machine.specs.ObjectNames.{IsObject, Object, candidate_in, names_object, object_in, pointer_in}
-use Rattle.machine.specs.Places.{IsInPool}
-use Rattle.machine.specs.Remembered.{Pair, is_of, place_for, with_place}
-use Rattle.machine.specs.Resolution as resolution
+use Rattle.machine.specs.ObjectNames.{IsObject, Object, candidate_in, object_in, pointer_in}
 use Rattle.machine.specs.Resolution.{IsResolution, Resolution}
-use Rattle.machine.specs.SlotWrite as slots
 use Rattle.machine.specs.SlotWrite.{IsSlotWrite, SlotWrite}
-use Rattle.machine.specs.Stage.{Client, Kept, FromStart, FromSeek, FromChoose, FromClear, FromBody, FromFind, FromResolve, FromFree, FromReturn, Operation, Get, Put, Delete, Stage, Idle, Start, ReadEpoch, Pause, Paused, LostNode, Seek, Fetch, Choose, Clear, Body, Find, ReadVersion, Log, WriteSlot, AwaitRound, TestKey, Resolve, Free, Return, End}
-use Rattle.machine.specs.Standing.{HasCall, HasClass, HasObject, HasPlace, IsAt, IsCall, IsClient, IsMember, IsPlaceOf, KeepsFor}
-use Rattle.machine.specs.Stock.{IsStock, Stock}
+use Rattle.machine.specs.Stage.{Client, Kept, FromStart, FromSeek, FromChoose, FromClear, FromBody, FromFind, FromResolve, FromFree, FromReturn, Operation, Get, Put, Delete, Stage, Pause, Paused, LostNode, Seek}
+use Rattle.machine.specs.Standing.{HasClass, IsCall, IsClient, IsMember, KeepsFor}
+use Rattle.machine.specs.Stock.{Stock}
 use Rattle.machine.specs.Turn.{Turn}
-use Rattle.machine.specs.ValueRead as values
 use Rattle.machine.specs.ValueRead.{IsValueRead, ValueRead}
-use Rattle.machine.specs.WordsWrite as words
-use Rattle.machine.specs.WordsWrite.{IsWordsWrite, Piece, WordsWrite, body_of, log_of}
+use Rattle.machine.specs.WordsWrite.{IsWordsWrite, WordsWrite}
 use Rattle.machine.proofs.ViewLemmas.{open_mask-covers}
 use Rattle.machine.proofs.BitChangeLemmas as of_bits
 use Rattle.machine.proofs.ChoosingLemmas as of_choosing
@@ -61,30 +43,19 @@ use Rattle.machine.proofs.KeySearchLemmas as of_search
 use Rattle.machine.proofs.KeySearchLemmas.{IsFoundAt}
 use Rattle.machine.proofs.KeyTestLemmas as of_test
 use Rattle.machine.proofs.KeyTestLemmas.{room_of-eight}
-use Rattle.machine.proofs.ObjectNamesLemmas.{candidate_in-object, checked, object_in-is, object_in-pointer}
+use Rattle.machine.proofs.ObjectNamesLemmas.{candidate_in-object, object_in-is, object_in-pointer}
 use Rattle.machine.proofs.ResolutionLemmas as of_resolution
 use Rattle.machine.proofs.SlotWriteLemmas as of_slots
-use Rattle.machine.proofs.StockLemmas.{find-All}
 use Rattle.machine.proofs.ValueReadLemmas as of_values
-use Rattle.machine.proofs.WordsWriteLemmas as of_words
-use Rattle.object_form.specs.Class.{class_in, IsKeyLength, room_of, words_for, words_of}
-use Rattle.object_form.specs.Content.{padded_words, word_from}
-use Rattle.object_form.specs.Link.{word_of_link}
-use Rattle.object_form.specs.Meta.{word_of_meta}
-use Rattle.object_form.specs.declared.classes.TheConstants.{CLASSES, LONGEST}
-use Rattle.object_form.specs.declared.links.Link.{Link}
+use Rattle.object_form.specs.Class.{class_in}
 use Rattle.object_form.specs.declared.metas.Kind.{Kind}
 use Rattle.object_form.specs.declared.metas.Kind.TheVariants.{Value, Tombstone}
-use Rattle.region_view.specs.Epoch.{epoch_in}
 use Rattle.region_view.specs.Placed.{Viewed}
-use Rattle.std.proofs.lemmas.Option.{option_and_then_some}
-use Rattle.region_view.specs.Sizes.{IsWithinLimits, Sizes}
-use Rattle.slot_order.proofs.OrderLemmas.{length-order_of-cases, order_of-below}
+use Rattle.region_view.specs.Sizes.{Sizes}
 use Rattle.slot_order.specs.Slots.{order_of}
 use Rattle.verb_words.specs.declared.verbs.Answer.{Answer}
 use Rattle.verb_words.specs.declared.verbs.Answer.TheVariants.{Word, Done, Lost}
-
-use Rattle.machine.proofs.ClientLemmas.{bytes_same, class_in-is, log-is, own_object-is, search_of-is, slot_of-below, with_place-all, write_body-is}
+use Rattle.machine.proofs.ClientLemmas.{class_in-is, log-is, own_object-is, search_of-is, slot_of-below, with_place-all, write_body-is}
 
 abbrev Member : Sizes → ℕ → Client → Type 0
 Member s n client = IsMember s n client.shape client.client client.stock client.remembered
@@ -144,17 +115,22 @@ view-held client view held is = subst IsView held is
 pub on_took-is : (s : Sizes) (n : ℕ) (client : Client) (stock : Stock) (told : Took) → Member s n client → Called client → Classed client → IsView (view_of client) → KeepsFor (kept_of client.stage) client
     → IsChoosing (view_of client) client.client client.class stock → IsTaken client.shape client.class told → IsClient s n (on_took client stock told).state
 on_took-is s n client stock told member call has is keeps choosing taken = by told taken
-  where member' : IsMember s n client.shape client.client stock client.remembered
-        member' = record { same_shape = member.same_shape; same_number = member.same_number; limits = member.limits; least = member.least; most = member.most; is_stock = choosing.ready.is_stock; places = member.places }
-        by : (told : Took) → IsTaken client.shape client.class told → IsClient s n (on_took client stock told).state
-        by took.Going taken = record { member = member'; call = call; stage = (has, choosing) }
-        by (took.Have object next) taken = record {
-          member = member'; call = call;
-          stage = ((record { of_class = has; named = taken.0 }, taken.1),
-              of_bits.bit_change_of-is (view_of client) (record { pointer = object; class = client.class }) false false is (record { class = has.below; named = taken.0 }));
-        }
-        by (took.NoSpace class awaited begin) taken = record { member = member'; call = call; stage = tt }
-        by (took.Refused node) taken = refused-is s n (record client { stock = stock }) node member' call (keeps-stock (kept_of client.stage) client stock keeps)
+  where
+    member' : IsMember s n client.shape client.client stock client.remembered
+    member' = record { same_shape = member.same_shape; same_number = member.same_number; limits = member.limits; least = member.least; most = member.most; is_stock = choosing.ready.is_stock; places = member.places }
+
+    by : (told : Took) → IsTaken client.shape client.class told → IsClient s n (on_took client stock told).state
+    by took.Going taken = record { member = member'; call = call; stage = (has, choosing) }
+    by (took.Have object next) taken = record {
+      member = member';
+      call = call;
+      stage = (
+        (record { of_class = has; named = taken.0 }, taken.1),
+        of_bits.bit_change_of-is (view_of client) (record { pointer = object; class = client.class }) false false is (record { class = has.below; named = taken.0 }),
+      );
+    }
+    by (took.NoSpace class awaited begin) taken = record { member = member'; call = call; stage = tt }
+    by (took.Refused node) taken = refused-is s n (record client { stock = stock }) node member' call (keeps-stock (kept_of client.stage) client stock keeps)
 
 pub on_choosing-is : (s : Sizes) (n : ℕ) (client : Client) (turn : Turn Stock Took) → Member s n client → Called client → Classed client → IsView (view_of client) → KeepsFor (kept_of client.stage) client
     → of_choosing.IsTurned (view_of client) client.client client.class turn → IsClient s n (on_choosing client turn).state
@@ -163,7 +139,7 @@ on_choosing-is s n client turn member call has is keeps turned = on_took-is s n 
 chooses-is : (s : Sizes) (n : ℕ) (client : Client) → Member s n client → Called client → Classed client → IsView (view_of client) → KeepsFor (kept_of client.stage) client → IsClient s n (chooses client).state
 chooses-is s n client member call has is keeps =
     on_choosing-is s n client (choosing.begins client.stock client.mask client.class) member call has is keeps
-        (of_choosing.begins-turned (view_of client) client.client client.class client.stock member.is_stock is (member.least, member.most) has.below)
+    (of_choosing.begins-turned (view_of client) client.client client.class client.stock member.is_stock is (member.least, member.most) has.below)
 
 chooses_for-is : (s : Sizes) (n : ℕ) (client : Client) → Member s n client → Called client → IsView (view_of client) → ((other : Client) → KeepsFor (kept_of client.stage) other) → IsClient s n (chooses_for client (length client.value)).state
 chooses_for-is s n client member call is keeps =
@@ -185,7 +161,12 @@ first_turn-is s n client Delete member call is keeps = seeks-is s n client membe
 cleared-is : (s : Sizes) (n : ℕ) (client : Client) → Member s n client → Called client → IsView (view_of client) → KeepsFor FromClear client → IsClient s n (cleared client).state
 cleared-is s n client member call is keeps = record {
   member = record {
-    same_shape = member.same_shape; same_number = member.same_number; limits = member.limits; least = member.least; most = member.most; places = member.places;
+    same_shape = member.same_shape;
+    same_number = member.same_number;
+    limits = member.limits;
+    least = member.least;
+    most = member.most;
+    places = member.places;
     is_stock = of_choosing.taken-is client.shape client.client client.class client.reserve client.stock member.is_stock keeps.0.of_class.below keeps.1;
   };
   call = call;
@@ -213,16 +194,18 @@ remembers-member s n client place member below =
 
 fetches-is : (s : Sizes) (n : ℕ) (client : Client) (word value_len : ℕ) → Member s n client → Called client → IsView (view_of client) → IsFoundAt (view_of client) client.key word value_len → IsClient s n (fetches client word value_len).state
 fetches-is s n client word value_len member call is at = by (value_len == 0) refl
-  where by : (t : Bool) → (value_len == 0) ≡ t → IsClient s n (fetches client word value_len).state
-        by true empty = rw empty (record { member = member; call = call; stage = tt })
-        by false some =
-            let named = object_in-is client.shape word at.object at.named in
-            let pointer = object_in-pointer client.shape word at.object at.named in
-            let P : ℕ → Type 0 = λ p. IsObject client.shape (record { pointer = p; class = at.object.class }) in
-            rw some (record {
-              member = member; call = call;
-              stage = of_values.value_read_of-is (view_of client) (pointer_in word) at.object.class (length client.key) value_len is (subst P pointer named) at.room (grind (arith, nat_tests));
-            })
+  where
+    by : (t : Bool) → (value_len == 0) ≡ t → IsClient s n (fetches client word value_len).state
+    by true empty = rw empty (record { member = member; call = call; stage = tt })
+    by false some =
+        let named = object_in-is client.shape word at.object at.named in
+        let pointer = object_in-pointer client.shape word at.object at.named in
+        let P : ℕ → Type 0 = λ p. IsObject client.shape (record { pointer = p; class = at.object.class }) in
+        rw some (record {
+          member = member;
+          call = call;
+          stage = of_values.value_read_of-is (view_of client) (pointer_in word) at.object.class (length client.key) value_len is (subst P pointer named) at.room (grind (arith, nat_tests));
+        })
 
 on_value-is : (s : Sizes) (n : ℕ) (client : Client) (operation : Operation) (word value_len : ℕ) → Member s n client → Called client → IsView (view_of client) → ((other : Client) → KeepsFor (kept_of client.stage) other)
     → IsFoundAt (view_of client) client.key word value_len → IsClient s n (on_value operation client word value_len).state
@@ -244,8 +227,8 @@ on_seek-is s n client key_search found_as.Nowhere member call searches keeps fou
 on_seek-is s n client key_search (found_as.Refused node) member call searches keeps found = refused-is s n client node member call (keeps client)
 on_seek-is s n client key_search (found_as.At slot word kind value_len) member call searches keeps found =
     on_kind-is s n (remembers client key_search.place) kind word value_len
-        (remembers-member s n client key_search.place member (of_search.place-below (view_of client) client.key key_search searches)) call
-        (subst IsView searches.held searches.is_view) keeps (found slot word value_len kind refl)
+    (remembers-member s n client key_search.place member (of_search.place-below (view_of client) client.key key_search searches)) call
+    (subst IsView searches.held searches.is_view) keeps (found slot word value_len kind refl)
 
 pub on_fetch-is : (s : Sizes) (n : ℕ) (client : Client) (value_read : ValueRead) (told : Fetched) → Member s n client → Called client → KeepsFor (kept_of client.stage) client → (told ≡ fetched_as.Going → IsValueRead (view_of client) value_read)
     → IsClient s n (on_fetch client value_read told).state
@@ -257,7 +240,8 @@ on_fetch-is s n client value_read (fetched_as.Refused node) member call keeps re
 
 gives_back-is : (s : Sizes) (n : ℕ) (client : Client) (result : Outcome) → Member s n client → Called client → IsView (view_of client) → KeepsFor FromReturn client → IsClient s n (gives_back client result).state
 gives_back-is s n client result member call is has = record {
-  member = member; call = call;
+  member = member;
+  call = call;
   stage = (has, of_bits.bit_change_of-is (view_of client) (own_object client) true false is (own_object-is client has));
 }
 
@@ -270,12 +254,13 @@ pub on_find-is : (s : Sizes) (n : ℕ) (client : Client) (key_search : KeySearch
 on_find-is s n client key_search found_as.Going member call has keeps searches found = record { member = member; call = call; stage = (has, searches) }
 on_find-is s n client key_search (found_as.Empty slot) member call has keeps searches found =
     logs-is s n (record client { place = key_search.place; expect = 0; version = 1 }) member call (subst IsView searches.held searches.is_view)
-        (record { object = has; below = of_search.place-below (view_of client) client.key key_search searches })
+    (record { object = has; below = of_search.place-below (view_of client) client.key key_search searches })
 on_find-is s n client key_search (found_as.At slot word kind value_len) member call has keeps searches found =
     let below = of_search.place-below (view_of client) client.key key_search searches in
     let at = found slot word value_len kind refl in
     record {
-      member = remembers-member s n client key_search.place member below; call = call;
+      member = remembers-member s n client key_search.place member below;
+      call = call;
       stage = (record { object = has; below = below }, subst IsView searches.held searches.is_view, (at.object, at.named));
     }
 on_find-is s n client key_search found_as.Nowhere member call has keeps searches found = gives_back-is s n client outcome.Full member call (subst IsView searches.held searches.is_view) has
@@ -285,20 +270,21 @@ passes-is : (s : Sizes) (n : ℕ) (client : Client) (key_search : KeySearch) →
     → IsClient s n (on_searching client (search.passed key_search)).state
 passes-is s n client key_search member call has keeps searches =
     on_find-is s n client (search.passed key_search).state (search.passed key_search).told member call has keeps (of_search.passed-is (view_of client) client.key key_search searches)
-        (λ slot word value_len kind tells. absurd (of_search.passed-never key_search slot word value_len kind tells))
+    (λ slot word value_len kind tells. absurd (of_search.passed-never key_search slot word value_len kind tells))
 
 searches-is : (s : Sizes) (n : ℕ) (client : Client) (key_search : KeySearch) (answer : Answer) → Member s n client → Called client → KeepsFor FromFind client → KeepsFor (kept_of client.stage) client
     → IsKeySearch (view_of client) client.key key_search → IsClient s n (on_searching client (search.turn key_search answer)).state
 searches-is s n client key_search answer member call has keeps searches =
     on_find-is s n client (search.turn key_search answer).state (search.turn key_search answer).told member call has keeps (of_search.turn-is (view_of client) client.key key_search answer searches)
-        (λ slot word value_len kind tells. of_search.turn-found (view_of client) client.key key_search answer slot word value_len kind searches tells)
+    (λ slot word value_len kind tells. of_search.turn-found (view_of client) client.key key_search answer slot word value_len kind searches tells)
 
 pub finds_at-is : (s : Sizes) (n : ℕ) (client : Client) (phase : search.Phase) (key_search : KeySearch) (answer : Answer) → Member s n client → Called client → KeepsFor FromFind client → KeepsFor (kept_of client.stage) client
     → IsKeySearch (view_of client) client.key key_search → IsClient s n (finds_at phase client key_search answer).state
 finds_at-is s n client search.AtSlot key_search (Word word) member call has keeps searches = by (word == fresh_of client) refl
-  where by : (t : Bool) → (word == fresh_of client) ≡ t → IsClient s n (finds_at search.AtSlot client key_search (Word word)).state
-        by true own = rw own (passes-is s n client key_search member call has keeps searches)
-        by false other = rw other (searches-is s n client key_search (Word word) member call has keeps searches)
+  where
+    by : (t : Bool) → (word == fresh_of client) ≡ t → IsClient s n (finds_at search.AtSlot client key_search (Word word)).state
+    by true own = rw own (passes-is s n client key_search member call has keeps searches)
+    by false other = rw other (searches-is s n client key_search (Word word) member call has keeps searches)
 finds_at-is s n client search.AtSlot key_search Done member call has keeps searches = searches-is s n client key_search Done member call has keeps searches
 finds_at-is s n client search.AtSlot key_search Lost member call has keeps searches = searches-is s n client key_search Lost member call has keeps searches
 finds_at-is s n client (search.AtKey word key_test) key_search answer member call has keeps searches = searches-is s n client key_search answer member call has keeps searches
@@ -317,7 +303,8 @@ pub on_log-is : (s : Sizes) (n : ℕ) (client : Client) (write : WordsWrite) (to
     → IsWordsWrite (view_of client) write → IsClient s n (on_log client write told).state
 on_log-is s n client write written.Going member call is has keeps writes = record { member = member; call = call; stage = (has, writes) }
 on_log-is s n client write written.Whole member call is has keeps writes = record {
-  member = member; call = call;
+  member = member;
+  call = call;
   stage = (has, of_slots.slot_write_of-is (view_of client) (slot_of client) client.expect (fresh_of client) is (slot_of-below s n client member has.below));
 }
 on_log-is s n client write (written.Refused node) member call is has keeps writes = refused-is s n client node member call keeps
@@ -326,27 +313,32 @@ on_log-is s n client write (written.Refused node) member call is has keeps write
 
 won-is : (s : Sizes) (n : ℕ) (client : Client) → Member s n client → Called client → IsView (view_of client) → KeepsFor FromResolve client → IsClient s n (won client).state
 won-is s n client member call is has = by (object_in client.shape client.expect) refl
-  where member' : Member s n (remembers client client.place)
-        member' = remembers-member s n client client.place member has.below
-        by : (object : Option Object) → object_in client.shape client.expect ≡ object → IsClient s n (won client).state
-        by None none = rw none (ends-is s n (remembers client client.place) outcome.Done member' call)
-        by (Some object) some = rw some (record {
-          member = member'; call = call;
-          stage = (has, of_bits.bit_change_of-is (view_of client) object true false is (object_in-is client.shape client.expect object some));
-        })
+  where
+    member' : Member s n (remembers client client.place)
+    member' = remembers-member s n client client.place member has.below
+
+    by : (object : Option Object) → object_in client.shape client.expect ≡ object → IsClient s n (won client).state
+    by None none = rw none (ends-is s n (remembers client client.place) outcome.Done member' call)
+    by (Some object) some = rw some (record {
+      member = member';
+      call = call;
+      stage = (has, of_bits.bit_change_of-is (view_of client) object true false is (object_in-is client.shape client.expect object some));
+    })
 
 is_beaten-is : (s : Sizes) (n : ℕ) (client : Client) → Member s n client → Called client → IsView (view_of client) → KeepsFor FromResolve client → IsClient s n (is_beaten client).state
 is_beaten-is s n client member call is has = gives_back-is s n (record client { beaten = Some (slot_of client, client.version) }) outcome.Done member call is has.object
 
 pub on_changed-is : (s : Sizes) (n : ℕ) (client : Client) (word : ℕ) → Member s n client → Called client → IsView (view_of client) → KeepsFor FromResolve client → KeepsFor (kept_of client.stage) client → IsClient s n (on_changed client word).state
 on_changed-is s n client word member call is has keeps = by (client.expect == 0) refl (candidate_in client.shape client.key word) refl
-  where by : (t : Bool) → (client.expect == 0) ≡ t → (object : Option Object) → candidate_in client.shape client.key word ≡ object → IsClient s n (on_changed client word).state
-        by false full object candidate = rw full (is_beaten-is s n client member call is has)
-        by true empty None none = rw (empty, none) (finds_on-is s n client member call is has keeps)
-        by true empty (Some object) some = rw (empty, some) (record {
-          member = member; call = call;
-          stage = (has, of_test.key_test_of-is (view_of client) client.key object is call.key_len.0 (object_in-is client.shape word object (candidate_in-object client.shape client.key word object some)));
-        })
+  where
+    by : (t : Bool) → (client.expect == 0) ≡ t → (object : Option Object) → candidate_in client.shape client.key word ≡ object → IsClient s n (on_changed client word).state
+    by false full object candidate = rw full (is_beaten-is s n client member call is has)
+    by true empty None none = rw (empty, none) (finds_on-is s n client member call is has keeps)
+    by true empty (Some object) some = rw (empty, some) (record {
+      member = member;
+      call = call;
+      stage = (has, of_test.key_test_of-is (view_of client) client.key object is call.key_len.0 (object_in-is client.shape word object (candidate_in-object client.shape client.key word object some)));
+    })
 
 pub on_wrote-is : (s : Sizes) (n : ℕ) (client : Client) (write : SlotWrite) (told : Wrote) → Member s n client → Called client → IsView (view_of client) → KeepsFor FromResolve client → KeepsFor (kept_of client.stage) client
     → IsSlotWrite (view_of client) write → IsClient s n (on_wrote client write told).state
@@ -392,22 +384,30 @@ resumes-is s n client FromStart member call is keeps any = first_turn-is s n cli
 resumes-is s n client FromSeek member call is keeps any = seeks-is s n client member call is
 resumes-is s n client FromChoose member call is keeps any = chooses-is s n client member call keeps is (any client)
 resumes-is s n client FromClear member call is keeps any = record {
-  member = member; call = call; stage = (keeps, of_bits.bit_change_of-is (view_of client) (own_object client) false true is (own_object-is client keeps.0));
+  member = member;
+  call = call;
+  stage = (keeps, of_bits.bit_change_of-is (view_of client) (own_object client) false true is (own_object-is client keeps.0));
 }
 resumes-is s n client FromBody member call is keeps any = record { member = member; call = call; stage = (keeps, write_body-is client is keeps) }
 resumes-is s n client FromFind member call is keeps any = record { member = member; call = call; stage = (keeps, search_of-is s n client member call is) }
 resumes-is s n client FromResolve member call is keeps any = record {
-  member = member; call = call;
+  member = member;
+  call = call;
   stage = (keeps, of_resolution.resolution_of-is (view_of client) (slot_of client) client.expect (fresh_of client) client.version client.key is call.key_len.0 (slot_of-below s n client member keeps.below));
 }
 resumes-is s n client FromFree member call is keeps any = by (object_in client.shape client.expect) refl
-  where by : (object : Option Object) → object_in client.shape client.expect ≡ object → IsClient s n (frees_again client).state
-        by None none = rw none (record { member = member; call = call; stage = tt })
-        by (Some object) some = rw some (record {
-          member = member; call = call; stage = (keeps, of_bits.bit_change_of-is (view_of client) object true true is (object_in-is client.shape client.expect object some));
-        })
+  where
+    by : (object : Option Object) → object_in client.shape client.expect ≡ object → IsClient s n (frees_again client).state
+    by None none = rw none (record { member = member; call = call; stage = tt })
+    by (Some object) some = rw some (record {
+      member = member;
+      call = call;
+      stage = (keeps, of_bits.bit_change_of-is (view_of client) object true true is (object_in-is client.shape client.expect object some));
+    })
 resumes-is s n client FromReturn member call is keeps any = record {
-  member = member; call = call; stage = (keeps, of_bits.bit_change_of-is (view_of client) (own_object client) true true is (own_object-is client keeps));
+  member = member;
+  call = call;
+  stage = (keeps, of_bits.bit_change_of-is (view_of client) (own_object client) true true is (own_object-is client keeps));
 }
 
 resumes_with-is : (s : Sizes) (n : ℕ) (client : Client) (kept : Kept) (word mask : ℕ) → Member s n client → Called client → KeepsFor kept client → ((other : Client) → KeepsFor (kept_of client.stage) other)
@@ -420,26 +420,30 @@ pauses-is s n client word kept member call keeps = record { member = member; cal
 
 pub on_epoch-is : (s : Sizes) (n : ℕ) (client : Client) (found : ℕ) → Member s n client → Called client → ((other : Client) → KeepsFor (kept_of client.stage) other) → IsClient s n (on_epoch client found).state
 on_epoch-is s n client found member call any = by (open_mask client.shape found) refl
-  where by : (mask : Option ℕ) → open_mask client.shape found ≡ mask → IsClient s n (on_epoch client found).state
-        by None none = rw none (pauses-is s n client found FromStart member call tt)
-        by (Some mask) some = rw some (resumes_with-is s n client FromStart found mask member call tt any some)
+  where
+    by : (mask : Option ℕ) → open_mask client.shape found ≡ mask → IsClient s n (on_epoch client found).state
+    by None none = rw none (pauses-is s n client found FromStart member call tt)
+    by (Some mask) some = rw some (resumes_with-is s n client FromStart found mask member call tt any some)
 
 pub on_paused-is : (s : Sizes) (n : ℕ) (client : Client) (word : ℕ) (kept : Kept) (found : ℕ) → Member s n client → Called client → KeepsFor kept client → ((other : Client) → KeepsFor (kept_of client.stage) other)
     → IsClient s n (on_paused client word kept found).state
 on_paused-is s n client word kept found member call keeps any = by (open_mask client.shape found) refl (found == word) refl
-  where by : (mask : Option ℕ) → open_mask client.shape found ≡ mask → (t : Bool) → (found == word) ≡ t → IsClient s n (on_paused client word kept found).state
-        by (Some mask) some t same = rw some (resumes_with-is s n client kept found mask member call keeps any some)
-        by None none true same = rw (none, same) (record { member = member; call = call; stage = keeps-stage kept client (Paused word kept) keeps })
-        by None none false other = rw (none, other) (pauses-is s n client found kept member call keeps)
+  where
+    by : (mask : Option ℕ) → open_mask client.shape found ≡ mask → (t : Bool) → (found == word) ≡ t → IsClient s n (on_paused client word kept found).state
+    by (Some mask) some t same = rw some (resumes_with-is s n client kept found mask member call keeps any some)
+    by None none true same = rw (none, same) (record { member = member; call = call; stage = keeps-stage kept client (Paused word kept) keeps })
+    by None none false other = rw (none, other) (pauses-is s n client found kept member call keeps)
 
 pub on_lost-is : (s : Sizes) (n : ℕ) (client : Client) (node : ℕ) (kept : Kept) (found : ℕ) → Member s n client → Called client → KeepsFor kept client → IsClient s n (on_lost client node kept found).state
 on_lost-is s n client node kept found member call keeps = by (open_mask client.shape found) refl
-  where by : (mask : Option ℕ) → open_mask client.shape found ≡ mask → IsClient s n (on_lost client node kept found).state
-        by (Some mask) some = rw some (record { member = member; call = call; stage = keeps-stage kept client (LostNode node kept) keeps })
-        by None none = rw none (pauses-is s n client found kept member call keeps)
+  where
+    by : (mask : Option ℕ) → open_mask client.shape found ≡ mask → IsClient s n (on_lost client node kept found).state
+    by (Some mask) some = rw some (record { member = member; call = call; stage = keeps-stage kept client (LostNode node kept) keeps })
+    by None none = rw none (pauses-is s n client found kept member call keeps)
 
 pub on_round-is : (s : Sizes) (n : ℕ) (client : Client) (write : SlotWrite) (found : ℕ) → Member s n client → Called client → KeepsFor FromResolve client → IsSlotWrite (view_of client) write → IsClient s n (on_round client write found).state
 on_round-is s n client write found member call has writes = by (open_mask client.shape found) refl
-  where by : (mask : Option ℕ) → open_mask client.shape found ≡ mask → IsClient s n (on_round client write found).state
-        by (Some mask) some = rw some (record { member = member; call = call; stage = (has, writes) })
-        by None none = rw none (pauses-is s n client found FromResolve member call has)
+  where
+    by : (mask : Option ℕ) → open_mask client.shape found ≡ mask → IsClient s n (on_round client write found).state
+    by (Some mask) some = rw some (record { member = member; call = call; stage = (has, writes) })
+    by None none = rw none (pauses-is s n client found FromResolve member call has)

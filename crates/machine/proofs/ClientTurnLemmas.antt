@@ -1,55 +1,22 @@
 -- A client stays one, whatever its verbs are answered, and its verbs go to places of the pool.
-use Rattle.std.proofs.Common.{◌≡◌, ℕ, zero, suc, ◌+◌, ◌-◌, ◌*◌, ◌%◌, ◌^◌, ◌<◌, ◌≤◌, ◌==◌, ◌⊎◌, inl, inr, Bool, true, false, List, [], ◌∷◌, ◌++◌, length, get_or, map, filter, find, take, Option, Some, None, if◌then◌else◌, refl, sym, ap, subst, ◌∙◌, arith, length-append}
-use Rattle.std.specs.Prelude.{All, not, slice_index, slice_index_or}
-use Rattle.std.specs.List.{enumerate_from, range_with_len}
-use Rattle.std.proofs.Math.ListN.{get_or-append}
-use Rattle.std.proofs.Math.Seq.{get_or-append_seam}
-use Rattle.std.proofs.lemmas.Bool.{cases_lt}
-use Rattle.std.proofs.lemmas.Bool.Decides.{nat_tests}
-use Rattle.std.proofs.lemmas.Slice.Eq.{bytes_eq-Decides}
-use Rattle.std.specs.Str.{bytes_eq}
-use Rattle.std.proofs.lemmas.List.Elements.{All-append, All-filter, All-from_get_or, All-get_or, All-take}
-use Rattle.std.proofs.lemmas.List.FromFn.{get_or-enumerate_from, length-enumerate_from, length-map-range_with_len}
-use Rattle.machine.specs.declared.bit_change.Changed.{Changed}
-use Rattle.machine.specs.declared.bit_change.Changed.TheVariants as changed
-use Rattle.machine.specs.declared.choosing.Took.{Took}
-use Rattle.machine.specs.declared.choosing.Took.TheVariants as took
-use Rattle.machine.specs.declared.client_call.Outcome.{Outcome}
-use Rattle.machine.specs.declared.client_call.Outcome.TheVariants as outcome
-use Rattle.machine.specs.declared.client_call.Step.{Step}
-use Rattle.machine.specs.declared.key_search.Found.{Found}
-use Rattle.machine.specs.declared.key_search.Found.TheVariants as found_as
-use Rattle.machine.specs.declared.key_test.Tested.{Tested}
-use Rattle.machine.specs.declared.key_test.Tested.TheVariants as tested
-use Rattle.machine.specs.declared.object_write.Written.{Written}
-use Rattle.machine.specs.declared.object_write.Written.TheVariants as written
-use Rattle.machine.specs.declared.resolution.Resolved.{Resolved}
-use Rattle.machine.specs.declared.resolution.Resolved.TheVariants as resolved
-use Rattle.machine.specs.declared.slot_write.Wrote.{Wrote}
-use Rattle.machine.specs.declared.slot_write.Wrote.TheVariants as wrote
-use Rattle.machine.specs.declared.value_read.Fetched.{Fetched}
-use Rattle.machine.specs.declared.value_read.Fetched.TheVariants as fetched_as
+use Rattle.std.proofs.Common.{◌≡◌, ℕ, ◌≤◌, List, length, refl, sym, subst, arith}
 use Rattle.machine.specs.BitChange as bits
 use Rattle.machine.specs.BitChange.{BitChange, IsBitChange}
 use Rattle.machine.specs.Choosing as choosing
 use Rattle.machine.specs.Choosing.{IsChoosing, IsTaken}
-use Rattle.machine.specs.Client.{absent, chooses, chooses_for, cleared, ends, fetches, finds_at, finds_on, first_turn, frees_again, fresh_of, gives_back, goes_to, idles, invoked, is_beaten, kept_of, kind_of, link_of, logs, next, on_body, on_changed, on_choosing, on_clear, on_epoch, on_fetch, on_find, on_free, on_kind, on_log, on_lost, on_paused, on_resolved, on_return, on_round, on_searching, on_seek, on_test, on_took, on_value, on_version, on_wrote, own_object, refused, remembers, resolution_for, resumes, resumes_with, search_of, slot_of, stays, turn, turn_at, verb_at, view_of, won, write_body}
-use Rattle.machine.specs.EpochRead.{IsView, leaves_none_bare, mask_of, open_mask}
+use Rattle.machine.specs.Client.{invoked, kept_of, next, turn, turn_at, verb_at, view_of}
+use Rattle.machine.specs.EpochRead.{IsView}
 use Rattle.machine.specs.KeySearch as search
 use Rattle.machine.specs.KeySearch.{IsKeySearch, KeySearch}
 use Rattle.machine.specs.KeyTest as test
 use Rattle.machine.specs.KeyTest.{IsKeyTest, KeyTest}
-use Rattle.machine.specs.ObjectNames.{IsObject, Object, candidate_in, names_object, object_in, pointer_in}
 use Rattle.machine.specs.Places.{IsInPool, object_word, primary_place}
-use Rattle.machine.specs.Remembered.{Pair, is_of, place_for, with_place}
 use Rattle.machine.specs.Resolution as resolution
 use Rattle.machine.specs.Resolution.{IsResolution, Resolution}
 use Rattle.machine.specs.SlotWrite as slots
 use Rattle.machine.specs.SlotWrite.{IsSlotWrite, SlotWrite}
-use Rattle.machine.specs.Stage.{Client, first_client, Kept, FromStart, FromSeek, FromChoose, FromClear, FromBody, FromFind, FromResolve, FromFree, FromReturn, Operation, Get, Put, Delete, Stage, Idle, Start, ReadEpoch, Pause, Paused, LostNode, Seek, Fetch, Choose, Clear, Body, Find, ReadVersion, Log, WriteSlot, AwaitRound, TestKey, Resolve, Free, Return, End}
-use Rattle.machine.specs.Standing.{HasCall, HasClass, HasObject, HasPlace, IsAt, IsCall, IsClient, IsMember, IsPlaceOf, KeepsFor}
-use Rattle.machine.specs.Stock.{IsStock, Stock}
-use Rattle.machine.specs.Turn.{Turn}
+use Rattle.machine.specs.Stage.{Client, first_client, Operation, Stage, Idle, Start, ReadEpoch, Pause, Paused, LostNode, Seek, Fetch, Choose, Clear, Body, Find, ReadVersion, Log, WriteSlot, AwaitRound, TestKey, Resolve, Free, Return, End}
+use Rattle.machine.specs.Standing.{HasCall, IsAt, IsCall, IsClient, IsMember, KeepsFor}
 use Rattle.machine.specs.ValueRead as values
 use Rattle.machine.specs.ValueRead.{IsValueRead, ValueRead}
 use Rattle.machine.specs.WordsWrite as words
@@ -60,30 +27,18 @@ use Rattle.machine.proofs.KeySearchLemmas as of_search
 use Rattle.machine.proofs.KeySearchLemmas.{IsFoundAt}
 use Rattle.machine.proofs.KeyTestLemmas as of_test
 use Rattle.machine.proofs.KeyTestLemmas.{room_of-eight}
-use Rattle.machine.proofs.ObjectNamesLemmas.{candidate_in-object, checked, object_in-is, object_in-pointer}
+use Rattle.machine.proofs.ObjectNamesLemmas.{object_in-is, object_in-pointer}
 use Rattle.machine.proofs.ResolutionLemmas as of_resolution
 use Rattle.machine.proofs.SlotWriteLemmas as of_slots
 use Rattle.machine.proofs.StockLemmas.{first_stock-is}
 use Rattle.machine.proofs.ValueReadLemmas as of_values
 use Rattle.machine.proofs.WordsWriteLemmas as of_words
-use Rattle.object_form.specs.Class.{class_in, IsKeyLength, room_of, words_for, words_of}
-use Rattle.object_form.specs.Content.{padded_words, word_from}
-use Rattle.object_form.specs.Link.{word_of_link}
-use Rattle.object_form.specs.Meta.{word_of_meta}
-use Rattle.object_form.specs.declared.classes.TheConstants.{CLASSES, LONGEST}
-use Rattle.object_form.specs.declared.links.Link.{Link}
-use Rattle.object_form.specs.declared.metas.Kind.{Kind}
-use Rattle.object_form.specs.declared.metas.Kind.TheVariants.{Value, Tombstone}
-use Rattle.region_view.specs.Epoch.{epoch_in}
-use Rattle.region_view.specs.Placed.{Viewed}
-use Rattle.std.proofs.lemmas.Option.{option_and_then_some}
+use Rattle.object_form.specs.Class.{IsKeyLength}
+use Rattle.object_form.specs.declared.classes.TheConstants.{LONGEST}
 use Rattle.region_view.specs.Sizes.{IsWithinLimits, Sizes}
-use Rattle.slot_order.proofs.OrderLemmas.{length-order_of-cases, order_of-below}
-use Rattle.slot_order.specs.Slots.{order_of}
 use Rattle.verb_words.specs.declared.verbs.Answer.{Answer}
 use Rattle.verb_words.specs.declared.verbs.Answer.TheVariants.{Word, Done, Lost}
-
-use Rattle.machine.proofs.ClientRowLemmas.{finds_at-is, on_body-is, on_changed-is, on_choosing-is, on_clear-is, on_epoch-is, on_fetch-is, on_find-is, on_free-is, on_log-is, on_lost-is, on_paused-is, on_resolved-is, on_return-is, on_round-is, on_seek-is, on_test-is, keeps-stage, on_version-is, on_wrote-is, view-held}
+use Rattle.machine.proofs.ClientRowLemmas.{finds_at-is, on_body-is, on_choosing-is, on_clear-is, on_epoch-is, on_fetch-is, on_free-is, on_log-is, on_lost-is, on_paused-is, on_resolved-is, on_return-is, on_round-is, on_seek-is, on_test-is, keeps-stage, on_version-is, on_wrote-is}
 use Rattle.machine.proofs.PlacesLemmas.{control-inside}
 use Rattle.region_view.specs.Control.{Begin, EpochWord, Pause as pause_word}
 use Rattle.verb_words.specs.Verb.{place_of}
@@ -121,38 +76,38 @@ turn_at-is s n client (LostNode node kept) Done at is member call has = is
 turn_at-is s n client (LostNode node kept) Lost at is member call has = is
 turn_at-is s n client (Seek key_search) answer at is member call has =
     on_seek-is s n client (search.turn key_search answer).state (search.turn key_search answer).told member call (of_search.turn-is (view_of client) client.key key_search answer has)
-        (any_at client (Seek key_search) at (λ other. tt))
-        (λ slot word value_len kind tells. of_search.turn-found (view_of client) client.key key_search answer slot word value_len kind has tells)
+    (any_at client (Seek key_search) at (λ other. tt))
+    (λ slot word value_len kind tells. of_search.turn-found (view_of client) client.key key_search answer slot word value_len kind has tells)
 turn_at-is s n client (Fetch value_read) answer at is member call has =
     on_fetch-is s n client (values.turn value_read answer).state (values.turn value_read answer).told member call (keeps_at client (Fetch value_read) at tt) (of_values.turn-is (view_of client) value_read answer has)
 turn_at-is s n client Choose answer at is member call has =
     on_choosing-is s n client (choosing.turn client.stock answer) member call has.0 has.1.ready.is_view (keeps_at client Choose at has.0)
-        (of_choosing.turn-turned (view_of client) client.client client.class client.stock answer has.1)
+    (of_choosing.turn-turned (view_of client) client.client client.class client.stock answer has.1)
 turn_at-is s n client (Clear change) answer at is member call has =
     on_clear-is s n client (bits.turn change answer).state (bits.turn change answer).told member call (subst IsView has.1.held has.1.is_view) has.0 (keeps_at client (Clear change) at has.0)
-        (of_bits.turn-is (view_of client) change answer has.1)
+    (of_bits.turn-is (view_of client) change answer has.1)
 turn_at-is s n client (Body write) answer at is member call has =
     on_body-is s n client (words.turn write answer).state (words.turn write answer).told member call (subst IsView has.1.held has.1.is_view) has.0 (keeps_at client (Body write) at has.0)
-        (of_words.turn-is (view_of client) write answer has.1)
+    (of_words.turn-is (view_of client) write answer has.1)
 turn_at-is s n client (Find key_search) answer at is member call has =
     finds_at-is s n client key_search.phase key_search answer member call has.0 (keeps_at client (Find key_search) at has.0) has.1
 turn_at-is s n client (ReadVersion word) answer at is member call has =
     on_version-is s n client word answer member call has.1 has.0 (keeps_at client (ReadVersion word) at has.0.object) has.2
 turn_at-is s n client (Log write) answer at is member call has =
     on_log-is s n client (words.turn write answer).state (words.turn write answer).told member call (subst IsView has.1.held has.1.is_view) has.0 (keeps_at client (Log write) at has.0)
-        (of_words.turn-is (view_of client) write answer has.1)
+    (of_words.turn-is (view_of client) write answer has.1)
 turn_at-is s n client (WriteSlot write) answer at is member call has =
     on_wrote-is s n client (slots.turn write answer).state (slots.turn write answer).told member call (subst IsView has.1.held has.1.is_view) has.0 (keeps_at client (WriteSlot write) at has.0)
-        (of_slots.turn-is (view_of client) write answer has.1)
+    (of_slots.turn-is (view_of client) write answer has.1)
 turn_at-is s n client (AwaitRound write) (Word found) at is member call has = on_round-is s n client write found member call has.0 has.1
 turn_at-is s n client (AwaitRound write) Done at is member call has = is
 turn_at-is s n client (AwaitRound write) Lost at is member call has = is
 turn_at-is s n client (TestKey key_test) answer at is member call has =
     on_test-is s n client (test.turn key_test answer).state (test.turn key_test answer).told member call (subst IsView has.1.held has.1.is_view) has.0 (keeps_at client (TestKey key_test) at has.0)
-        (of_test.turn-is (view_of client) client.key key_test answer has.1)
+    (of_test.turn-is (view_of client) client.key key_test answer has.1)
 turn_at-is s n client (Resolve resolving) answer at is member call has =
     on_resolved-is s n client (resolution.turn resolving answer).state (resolution.turn resolving answer).told member call (subst IsView has.1.held has.1.is_view) has.0 (keeps_at client (Resolve resolving) at has.0)
-        (of_resolution.turn-is (view_of client) resolving answer has.1)
+    (of_resolution.turn-is (view_of client) resolving answer has.1)
 turn_at-is s n client (Free change) answer at is member call has =
     on_free-is s n client (bits.turn change answer).state (bits.turn change answer).told member call has.0 (keeps_at client (Free change) at has.0) (of_bits.turn-is (view_of client) change answer has.1)
 turn_at-is s n client (Return change) answer at is member call has =

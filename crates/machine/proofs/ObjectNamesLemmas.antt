@@ -1,20 +1,16 @@
 -- What the names of objects say of their words.
-use Rattle.std.proofs.Common.{◌≡◌, ℕ, zero, suc, ◌+◌, ◌-◌, ◌*◌, ◌/◌, ◌%◌, ◌^◌, ◌<◌, ◌≤◌, Bool, true, false, ◌&&◌, ◌==◌, cond, List, [], ◌∷◌, find, Option, Some, None, if◌then◌else◌, refl, sym, ap, subst, ◌∙◌, arith}
-use Rattle.std.specs.Prelude.{nat_le, nat_lt}
+use Rattle.std.proofs.Common.{◌≡◌, ℕ, zero, suc, ◌+◌, ◌-◌, ◌*◌, ◌/◌, ◌%◌, ◌^◌, ◌<◌, ◌≤◌, Bool, true, false, ◌==◌, List, find, Option, Some, None, if◌then◌else◌, refl, sym, ap, subst, ◌∙◌, arith}
 use Rattle.std.specs.List.{range_with_len}
-use Rattle.std.specs.Option.{option_and_then}
 use Rattle.std.proofs.lemmas.Bool.{eq-eqb, le-leb, lt-ltb}
 use Rattle.std.proofs.lemmas.Bool.Decides.{nat_tests}
 use Rattle.std.specs.Cmp.Derive.{both_true}
 use Rattle.std.proofs.lemmas.Option.{option_and_then_some}
-use Rattle.machine.specs.ObjectNames.{IsObject, Object, bitmap_of, block_of, candidate_in, class_of_units, names_object, number_of, object_in, object_of_class, pointer_in}
+use Rattle.machine.specs.ObjectNames.{IsObject, Object, bitmap_of, candidate_in, class_of_units, names_object, object_in, pointer_in}
 use Rattle.machine.specs.Places.{object_word}
-use Rattle.object_form.proofs.ClassLemmas.{units_of-bounds}
 use Rattle.object_form.specs.Class.{room_of, units_of}
 use Rattle.object_form.specs.declared.classes.TheConstants.{CLASSES}
 use Rattle.pointer_fields.specs.Pointer.{region_of, unit_of}
 use Rattle.race_slot.proofs.SlotLemmas.{unpacked-gives}
-use Rattle.race_slot.specs.declared.Slot.{Slot}
 use Rattle.race_slot.specs.Slot.{unpacked}
 use Rattle.region_view.specs.Layout.{HasWord}
 use Rattle.region_view.specs.Sizes.{Sizes}
@@ -77,13 +73,14 @@ passed_on false given taken is = absurd cc
 find-below : (test : ℕ → Bool) (from len bound number : ℕ) → from + len ≤ bound → find test (range_with_len from len) ≡ Some number → number < bound
 find-below test from zero bound number within found = absurd cc
 find-below test from (suc len) bound number within found = by (test from) refl (find-below test (from + 1) len bound number (omega arith))
-  where by : (t : Bool) → test from ≡ t → (find test (range_with_len (from + 1) len) ≡ Some number → number < bound) → number < bound
-        by true is rest =
-            let P : Bool → Type 0 = λ b. (if b then Some from else find test (range_with_len (from + 1) len)) ≡ Some number in
-            let here : Some from ≡ Some number = subst P is found in
-            let same : from ≡ number = cc in
-            omega arith
-        by false is rest = rest (let P : Bool → Type 0 = λ b. (if b then Some from else find test (range_with_len (from + 1) len)) ≡ Some number in subst P is found)
+  where
+    by : (t : Bool) → test from ≡ t → (find test (range_with_len (from + 1) len) ≡ Some number → number < bound) → number < bound
+    by true is rest =
+        let P : Bool → Type 0 = λ b. (if b then Some from else find test (range_with_len (from + 1) len)) ≡ Some number in
+        let here : Some from ≡ Some number = subst P is found in
+        let same : from ≡ number = cc in
+        omega arith
+    by false is rest = rest (let P : Bool → Type 0 = λ b. (if b then Some from else find test (range_with_len (from + 1) len)) ≡ Some number in subst P is found)
 
 class_of_units-says : (units class : ℕ) → class_of_units units ≡ Some class → class < CLASSES
 class_of_units-says units class found = find-below (λ c. units_of c == units) 0 CLASSES CLASSES class (omega arith) found
@@ -93,21 +90,21 @@ pub object_in-is : (sizes : Sizes) (word : ℕ) (object : Object) → object_in 
 unfolding object_in
 object_in-is sizes word object found =
     option_and_then_some _ (unpacked word) object found (λ slot packed named.
-        option_and_then_some _ (class_of_units slot.units) object named (λ class units given.
-            let both = checked (names_object sizes class slot.pointer) (record { pointer = slot.pointer; class = class }) object given in
-            subst (IsObject sizes) both.1 (record { class = class_of_units-says slot.units class units; named = both.0 })))
+    option_and_then_some _ (class_of_units slot.units) object named (λ class units given.
+    let both = checked (names_object sizes class slot.pointer) (record { pointer = slot.pointer; class = class }) object given in
+    subst (IsObject sizes) both.1 (record { class = class_of_units-says slot.units class units; named = both.0 })))
 
 pub object_in-pointer : (sizes : Sizes) (word : ℕ) (object : Object) → object_in sizes word ≡ Some object → object.pointer ≡ pointer_in word
 unfolding object_in
 object_in-pointer sizes word object found =
     option_and_then_some _ (unpacked word) object found (λ slot packed named.
-        option_and_then_some _ (class_of_units slot.units) object named (λ class units given.
-            let both = checked (names_object sizes class slot.pointer) (record { pointer = slot.pointer; class = class }) object given in
-            let gives = unpacked-gives word slot packed in
-            let below = gives.0.pointer in
-            let is = gives.1 in
-            let same : slot.pointer ≡ pointer_in word = omega arith in
-            sym (ap (λ (o : Object). o.pointer) both.1) ∙ same))
+    option_and_then_some _ (class_of_units slot.units) object named (λ class units given.
+    let both = checked (names_object sizes class slot.pointer) (record { pointer = slot.pointer; class = class }) object given in
+    let gives = unpacked-gives word slot packed in
+    let below = gives.0.pointer in
+    let is = gives.1 in
+    let same : slot.pointer ≡ pointer_in word = omega arith in
+    sym (ap (λ (o : Object). o.pointer) both.1) ∙ same))
 
 pub candidate_in-object : (sizes : Sizes) (key : List ℕ) (word : ℕ) (object : Object) → candidate_in sizes key word ≡ Some object → object_in sizes word ≡ Some object
 candidate_in-object sizes key word object found = passed_on (word / 2 ^ 56 == finger_of key) (object_in sizes word) object found

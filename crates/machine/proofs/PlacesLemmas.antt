@@ -1,5 +1,5 @@
 -- The places of words on their replicas lie in the pool.
-use Rattle.std.proofs.Common.{◌≡◌, ℕ, zero, suc, ◌+◌, ◌-◌, ◌*◌, ◌%◌, ◌<◌, ◌≤◌, ◌⊎◌, inl, inr, Bool, true, false, ◌||◌, List, [], ◌∷◌, ◌++◌, length, map, filter, get_or, refl, sym, ap, subst, ◌∙◌, zero-add, arith, length-append}
+use Rattle.std.proofs.Common.{◌≡◌, ℕ, zero, suc, ◌+◌, ◌*◌, ◌%◌, ◌<◌, ◌≤◌, inl, inr, Bool, true, false, ◌||◌, List, [], ◌∷◌, length, map, filter, get_or, refl, sym, ap, subst, ◌∙◌, zero-add, arith, length-append}
 use Rattle.std.specs.Prelude.{All}
 use Rattle.std.specs.List.{list_any, range_with_len}
 use Rattle.std.proofs.Math.Nat.{mod-lt}
@@ -9,11 +9,11 @@ use Rattle.std.proofs.lemmas.List.FromFn.{get_or-range_with_len, length-range_wi
 use Rattle.std.proofs.lemmas.Bool.{false≢true}
 use Rattle.std.proofs.lemmas.List.Sums.{AllPass-from_list_all}
 use Rattle.machine.specs.EpochRead.{IsView, leaves_none_bare}
-use Rattle.machine.specs.Places.{Home, IsInPool, backup_count, control, homes_of, place_at, place_of_home, primary_last, primary_place, replica_count, slot_backup, slot_homes_of, slot_primary, with_shadow, written_place}
+use Rattle.machine.specs.Places.{Home, IsInPool, backup_count, control, homes_of, place_at, primary_last, primary_place, replica_count, slot_backup, slot_homes_of, slot_primary, with_shadow, written_place}
 use Rattle.region_view.proofs.ControlLemmas.{control_position-inside}
 use Rattle.region_view.proofs.LayoutLemmas.{position_of-inside}
 use Rattle.region_view.specs.Control.{ControlWord, HasControlWord}
-use Rattle.region_view.specs.Layout.{HasWord, NodeWord, Slot, Shadow, region_of_word}
+use Rattle.region_view.specs.Layout.{HasWord, NodeWord, Slot, region_of_word}
 use Rattle.region_view.specs.Placed.{Viewed, in_mask, placed_node, placed_nodes, replicas_of}
 use Rattle.region_view.specs.Sizes.{IsWithinLimits, Sizes}
 
@@ -36,15 +36,15 @@ placed_node-is sizes region i limits =
 pub replicas_of-nodes : (view : Viewed) (region : ℕ) → IsWithinLimits view.shape → All (IsNode view.shape) (replicas_of view region)
 replicas_of-nodes view region limits =
     All-filter (in_mask view.mask) (IsNode view.shape) (placed_nodes view.shape region)
-        (All-map (IsNode view.shape) (placed_node view.shape region) (range_with_len 0 view.shape.replicas)
-            (All-from_get_or (λ i. IsNode view.shape (placed_node view.shape region i)) (range_with_len 0 view.shape.replicas) 0
-                (λ i below. placed_node-is view.shape region (get_or (range_with_len 0 view.shape.replicas) i 0) limits)))
+    (All-map (IsNode view.shape) (placed_node view.shape region) (range_with_len 0 view.shape.replicas)
+    (All-from_get_or (λ i. IsNode view.shape (placed_node view.shape region i)) (range_with_len 0 view.shape.replicas) 0
+    (λ i below. placed_node-is view.shape region (get_or (range_with_len 0 view.shape.replicas) i 0) limits)))
 
 homes_on : (sizes : Sizes) (word : NodeWord) (nodes : List ℕ) → HasWord sizes word → All (IsNode sizes) nodes → All (IsHome sizes) (map (λ node. (node, word)) nodes)
 homes_on sizes word nodes has are =
     All-map (IsHome sizes) (λ node. (node, word)) nodes
-        (All-from_get_or (λ node. IsHome sizes (node, word)) nodes 0
-            (λ i below. record { node = All-get_or (IsNode sizes) nodes i 0 below are; word = has }))
+    (All-from_get_or (λ node. IsHome sizes (node, word)) nodes 0
+    (λ i below. record { node = All-get_or (IsNode sizes) nodes i 0 below are; word = has }))
 
 pub homes_of-are : (view : Viewed) (word : NodeWord) → IsWithinLimits view.shape → HasWord view.shape word → All (IsHome view.shape) (homes_of view word)
 homes_of-are view word limits has = homes_on view.shape word (replicas_of view (region_of_word word)) has (replicas_of-nodes view (region_of_word word) limits)
@@ -52,10 +52,11 @@ homes_of-are view word limits has = homes_on view.shape word (replicas_of view (
 slot_homes_are : (sizes : Sizes) (slot : ℕ) (nodes : List ℕ) → slot < 24 * sizes.groups → All (IsNode sizes) nodes → All (IsHome sizes) (with_shadow slot nodes)
 slot_homes_are sizes slot [] below are = λ k d under. absurd (omega arith)
 slot_homes_are sizes slot (node ∷ []) below are = two
-  where two : (k : ℕ) (d : Home) → k < 2 → IsHome sizes (get_or (with_shadow slot (node ∷ [])) k d)
-        two zero d under = record { node = are 0 0 (omega arith); word = below }
-        two (suc zero) d under = record { node = are 0 0 (omega arith); word = below }
-        two (suc (suc k)) d under = absurd (omega arith)
+  where
+    two : (k : ℕ) (d : Home) → k < 2 → IsHome sizes (get_or (with_shadow slot (node ∷ [])) k d)
+    two zero d under = record { node = are 0 0 (omega arith); word = below }
+    two (suc zero) d under = record { node = are 0 0 (omega arith); word = below }
+    two (suc (suc k)) d under = absurd (omega arith)
 slot_homes_are sizes slot (node ∷ other ∷ nodes) below are = homes_on sizes (Slot slot) (node ∷ other ∷ nodes) below are
 
 pub slot_homes_of-are : (view : Viewed) (slot : ℕ) → IsWithinLimits view.shape → slot < 24 * view.shape.groups → All (IsHome view.shape) (slot_homes_of view slot)
@@ -73,9 +74,10 @@ control-inside sizes word has = inl (refl, control_position-inside word has)
 some_kept : (test : ℕ → Bool) (nodes : List ℕ) → list_any test nodes ≡ true → 0 < length (filter test nodes)
 some_kept test [] any = absurd (false≢true any)
 some_kept test (node ∷ nodes) any = by (test node) refl (some_kept test nodes)
-  where by : (t : Bool) → test node ≡ t → (list_any test nodes ≡ true → 0 < length (filter test nodes)) → 0 < length (filter test (node ∷ nodes))
-        by true is rest = rw is (omega arith)
-        by false is rest = rw is (rest (let P : Bool → Type 0 = λ b. (b || list_any test nodes) ≡ true in subst P is any))
+  where
+    by : (t : Bool) → test node ≡ t → (list_any test nodes ≡ true → 0 < length (filter test nodes)) → 0 < length (filter test (node ∷ nodes))
+    by true is rest = rw is (omega arith)
+    by false is rest = rw is (rest (let P : Bool → Type 0 = λ b. (b || list_any test nodes) ≡ true in subst P is any))
 
 -- each region has a replica
 pub replicas_of-some : (view : Viewed) (region : ℕ) → IsView view → region ≤ view.shape.regions → 0 < length (replicas_of view region)
@@ -107,8 +109,8 @@ primary_last-are : (sizes : Sizes) (homes : List Home) → All (IsHome sizes) ho
 primary_last-are sizes [] are = are
 primary_last-are sizes (home ∷ homes) are =
     All-append (IsHome sizes) homes (home ∷ [])
-        (λ k d below. are (suc k) d (omega arith))
-        (λ k d below. let first : k ≡ 0 = omega arith in rw first (are 0 d (omega arith)))
+    (λ k d below. are (suc k) d (omega arith))
+    (λ k d below. let first : k ≡ 0 = omega arith in rw first (are 0 d (omega arith)))
 
 pub primary_place-inside : (view : Viewed) (word : NodeWord) → IsView view → HasWord view.shape word → region_of_word word ≤ view.shape.regions → IsInPool view.shape (primary_place view word)
 primary_place-inside view word is has within =
@@ -117,7 +119,7 @@ primary_place-inside view word is has within =
 pub written_place-inside : (view : Viewed) (word : NodeWord) (i : ℕ) → IsView view → HasWord view.shape word → i < replica_count view word → IsInPool view.shape (written_place view word i)
 written_place-inside view word i is has below =
     place_at-inside view.shape (primary_last (homes_of view word)) i is.limits (primary_last-are view.shape (homes_of view word) (homes_of-are view word is.limits has))
-        (omega (arith, length-primary_last (homes_of view word)))
+    (omega (arith, length-primary_last (homes_of view word)))
 
 with_shadow-more : (slot : ℕ) (nodes : List ℕ) → 0 < length nodes → 2 ≤ length (with_shadow slot nodes)
 with_shadow-more slot [] some = absurd (omega arith)

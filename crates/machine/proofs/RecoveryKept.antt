@@ -71,7 +71,9 @@ is_won-is s n recovery replaced base view = by (object_in recovery.shape replace
     by : (object : Option Object) → object_in recovery.shape replaced ≡ object → IsRecovery s n (is_won recovery replaced).state
     by None none = rw none (record { same_shape = base.same_shape; same_client = base.same_client; limits = base.limits; client = base.client; stage = view })
     by (Some object) named = rw named (record {
-      same_shape = base.same_shape; same_client = base.same_client; limits = base.limits;
+      same_shape = base.same_shape;
+      same_client = base.same_client;
+      limits = base.limits;
       client = base.client;
       stage = (view, of_bits.bit_change_of-is (view_of recovery) object true true view (object_in-is recovery.shape replaced object named));
     })
@@ -268,7 +270,9 @@ reads_object-is s n recovery base view are = by (linked_by recovery.number 0 rec
     by : (object : Option Object) → linked_by recovery.number 0 recovery.ends ≡ object → IsRecovery s n (reads_object recovery).state
     by None none = rw none (goes_to-is s n recovery WriteBegin base view)
     by (Some object) some = rw some (record {
-      same_shape = base.same_shape; same_client = base.same_client; limits = base.limits;
+      same_shape = base.same_shape;
+      same_client = base.same_client;
+      limits = base.limits;
       client = base.client;
       stage = (view, linked_by-is recovery.shape recovery.number 0 recovery.ends object are some);
     })
@@ -322,7 +326,9 @@ on_epoch-is s n recovery found is = by (open_mask recovery.shape found) refl
     by : (mask : Option ℕ) → open_mask recovery.shape found ≡ mask → IsRecovery s n (on_epoch recovery found).state
     by None none = rw none is
     by (Some mask) opens = rw opens (record {
-      same_shape = is.same_shape; same_client = is.same_client; limits = is.limits;
+      same_shape = is.same_shape;
+      same_client = is.same_client;
+      limits = is.limits;
       client = is.client;
       stage = record { limits = is.limits; covers = open_mask-covers recovery.shape found mask opens };
     })

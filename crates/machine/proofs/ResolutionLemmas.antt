@@ -1,5 +1,5 @@
 -- A resolution stays one, and its verbs go to places of the pool.
-use Rattle.std.proofs.Common.{◌≡◌, ℕ, ◌+◌, ◌*◌, ◌<◌, ◌≤◌, ◌==◌, Bool, true, false, List, length, Option, Some, None, refl, sym, subst, ◌∙◌, arith}
+use Rattle.std.proofs.Common.{◌≡◌, ℕ, ◌*◌, ◌<◌, ◌≤◌, ◌==◌, Bool, true, false, List, length, Option, Some, None, refl, subst, arith}
 use Rattle.std.specs.Prelude.{nat_lt}
 use Rattle.machine.specs.declared.key_test.Tested.{Tested}
 use Rattle.machine.specs.declared.key_test.Tested.TheVariants as tested
@@ -28,24 +28,27 @@ at_phase view resolution phase is at = record { held = is.held; is_view = is.is_
 
 walks_to-is : (view : Viewed) (resolution : Resolution) (word : ℕ) (before : Option ℕ) → IsResolution view resolution → IsResolution view (walks_to resolution word before).state
 walks_to-is view resolution word before is = by (object_in resolution.view.shape word) refl
-  where by : (object : Option Object) → object_in resolution.view.shape word ≡ object → IsResolution view (walks_to resolution word before).state
-        by None none = rw none is
-        by (Some object) some = rw some (at_phase view resolution (AtVersion object before) is (object_in-is resolution.view.shape word object some))
+  where
+    by : (object : Option Object) → object_in resolution.view.shape word ≡ object → IsResolution view (walks_to resolution word before).state
+    by None none = rw none is
+    by (Some object) some = rw some (at_phase view resolution (AtVersion object before) is (object_in-is resolution.view.shape word object some))
 
 tests-is : (view : Viewed) (resolution : Resolution) (word : ℕ) → IsResolution view resolution → IsResolution view (tests resolution word).state
 tests-is view resolution word is = by (candidate_in resolution.view.shape resolution.key word) refl
-  where by : (object : Option Object) → candidate_in resolution.view.shape resolution.key word ≡ object → IsResolution view (tests resolution word).state
-        by None none = rw none is
-        by (Some object) some = rw some (at_phase view resolution _ is
-            (key_test_of-is resolution.view resolution.key object is.is_view is.some (object_in-is _ word object (candidate_in-object _ resolution.key word object some))))
+  where
+    by : (object : Option Object) → candidate_in resolution.view.shape resolution.key word ≡ object → IsResolution view (tests resolution word).state
+    by None none = rw none is
+    by (Some object) some = rw some (at_phase view resolution _ is
+        (key_test_of-is resolution.view resolution.key object is.is_view is.some (object_in-is _ word object (candidate_in-object _ resolution.key word object some))))
 
 on_slot-is : (view : Viewed) (resolution : Resolution) (found : ℕ) → IsResolution view resolution → IsResolution view (on_slot resolution found).state
 on_slot-is view resolution found is = by (found == resolution.expect) refl (found == resolution.fresh) refl (resolution.expect == 0) refl
-  where by : (t : Bool) → (found == resolution.expect) ≡ t → (u : Bool) → (found == resolution.fresh) ≡ u → (v : Bool) → (resolution.expect == 0) ≡ v → IsResolution view (on_slot resolution found).state
-        by true same u fresh v empty = rw same is
-        by false other true fresh v empty = rw (other, fresh) is
-        by false other false changed true empty = rw (other, changed, empty) (tests-is view resolution found is)
-        by false other false changed false full = rw (other, changed, full) (walks_to-is view resolution found None is)
+  where
+    by : (t : Bool) → (found == resolution.expect) ≡ t → (u : Bool) → (found == resolution.fresh) ≡ u → (v : Bool) → (resolution.expect == 0) ≡ v → IsResolution view (on_slot resolution found).state
+    by true same u fresh v empty = rw same is
+    by false other true fresh v empty = rw (other, fresh) is
+    by false other false changed true empty = rw (other, changed, empty) (tests-is view resolution found is)
+    by false other false changed false full = rw (other, changed, full) (walks_to-is view resolution found None is)
 
 on_test-is : (view : Viewed) (resolution : Resolution) (key_test : KeyTest) (told : Tested) → IsResolution view resolution → IsKeyTest resolution.view resolution.key key_test
     → IsResolution view (on_test resolution key_test told).state
@@ -59,16 +62,18 @@ on_test-is view resolution key_test (tested.Refused node) is at = is
 on_version-is : (view : Viewed) (resolution : Resolution) (object : Object) (before : Option ℕ) (found : ℕ) → IsResolution view resolution → IsObject resolution.view.shape object
     → IsResolution view (on_version resolution object before found).state
 on_version-is view resolution object before found is named = by (falls before found) refl (nat_lt resolution.version found) refl
-  where by : (t : Bool) → falls before found ≡ t → (u : Bool) → nat_lt resolution.version found ≡ u → IsResolution view (on_version resolution object before found).state
-        by true down true above = rw (down, above) (at_phase view resolution (AtExpected object found) is named)
-        by true down false below = rw (down, below) is
-        by false up u above = rw up is
+  where
+    by : (t : Bool) → falls before found ≡ t → (u : Bool) → nat_lt resolution.version found ≡ u → IsResolution view (on_version resolution object before found).state
+    by true down true above = rw (down, above) (at_phase view resolution (AtExpected object found) is named)
+    by true down false below = rw (down, below) is
+    by false up u above = rw up is
 
 on_expected-is : (view : Viewed) (resolution : Resolution) (version found : ℕ) → IsResolution view resolution → IsResolution view (on_expected resolution version found).state
 on_expected-is view resolution version found is = by (found == resolution.fresh) refl
-  where by : (t : Bool) → (found == resolution.fresh) ≡ t → IsResolution view (on_expected resolution version found).state
-        by true fresh = rw fresh is
-        by false other = rw other (walks_to-is view resolution found (Some version) is)
+  where
+    by : (t : Bool) → (found == resolution.fresh) ≡ t → IsResolution view (on_expected resolution version found).state
+    by true fresh = rw fresh is
+    by false other = rw other (walks_to-is view resolution found (Some version) is)
 
 at_of : (view : Viewed) (resolution : Resolution) (phase : Phase) → resolution.phase ≡ phase → IsResolution view resolution → IsAt phase resolution.view resolution.key
 at_of view resolution phase at is = let P : Phase → Type 0 = λ p. IsAt p resolution.view resolution.key in subst P at is.phase
@@ -76,7 +81,7 @@ at_of view resolution phase at is = let P : Phase → Type 0 = λ p. IsAt p reso
 turn_at-is : (view : Viewed) (resolution : Resolution) (phase : Phase) (answer : Answer) → resolution.phase ≡ phase → IsResolution view resolution → IsResolution view (turn_at phase resolution answer).state
 turn_at-is view resolution (AtKey key_test) answer at is =
     on_test-is view resolution (test.turn key_test answer).state (test.turn key_test answer).told is
-        (of_test.turn-is resolution.view resolution.key key_test answer (at_of view resolution (AtKey key_test) at is))
+    (of_test.turn-is resolution.view resolution.key key_test answer (at_of view resolution (AtKey key_test) at is))
 turn_at-is view resolution AtSlot (Word found) at is = on_slot-is view resolution found is
 turn_at-is view resolution (AtVersion object before) (Word found) at is = on_version-is view resolution object before found is (at_of view resolution (AtVersion object before) at is)
 turn_at-is view resolution (AtExpected object version) (Word found) at is = on_expected-is view resolution version found is

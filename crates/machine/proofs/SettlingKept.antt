@@ -72,7 +72,8 @@ copies_to-is s settling live is = by (leaves_none_bare settling.shape (sources_o
   where
     by : (t : Bool) → leaves_none_bare settling.shape (sources_of (old_mask settling) live) ≡ t → IsSettling s (copies_to settling live).state
     by true covers = rw covers (record {
-      same_shape = is.same_shape; limits = is.limits;
+      same_shape = is.same_shape;
+      limits = is.limits;
       phase = record {
         covers = covers;
         within = sources_of-within (old_mask settling) live;
@@ -102,11 +103,13 @@ next_word-is s settling is copies = by (nat_lt (settling.offset + 1) (copied_wor
     by : (t : Bool) → nat_lt (settling.offset + 1) (copied_words settling.shape settling.region) ≡ t
         → (u : Bool) → nat_lt settling.region settling.shape.regions ≡ u → IsSettling s (next_word settling).state
     by true more u region = rw more (record {
-      same_shape = is.same_shape; limits = is.limits;
+      same_shape = is.same_shape;
+      limits = is.limits;
       phase = record { covers = copies.covers; within = copies.within; region = copies.region; offset = grind (arith, nat_tests) };
     })
     by false last true region = rw (last, region) (record {
-      same_shape = is.same_shape; limits = is.limits;
+      same_shape = is.same_shape;
+      limits = is.limits;
       phase = record {
         covers = copies.covers;
         within = copies.within;

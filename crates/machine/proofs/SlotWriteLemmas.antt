@@ -1,5 +1,5 @@
 -- A slot write stays one, and its verbs go to places of the pool.
-use Rattle.std.proofs.Common.{◌≡◌, ℕ, zero, suc, ◌+◌, ◌-◌, ◌*◌, ◌<◌, ◌≤◌, ◌==◌, Bool, true, false, List, [], ◌∷◌, ◌++◌, length, drop, refl, sym, ap, subst, ◌∙◌, arith, length-append, length-drop}
+use Rattle.std.proofs.Common.{◌≡◌, ℕ, ◌+◌, ◌*◌, ◌<◌, ◌≤◌, ◌==◌, Bool, true, false, List, [], ◌∷◌, ◌++◌, length, drop, refl, subst, arith, length-append, length-drop}
 use Rattle.std.proofs.lemmas.Bool.Decides.{nat_tests}
 use Rattle.machine.specs.EpochRead.{IsView}
 use Rattle.machine.specs.Places.{IsInPool, backup_count}
@@ -25,9 +25,10 @@ slot_write_of-is view slot expect fresh is below = record {
 mend_from-is : (fresh k backups : ℕ) (list words : List ℕ) → k + length words ≤ length list → IsAt (mend_from fresh k words) fresh list backups
 mend_from-is fresh k backups list [] within = tt
 mend_from-is fresh k backups list (word ∷ words) within = by (word == fresh) refl (mend_from-is fresh (k + 1) backups list words (omega arith))
-  where by : (t : Bool) → (word == fresh) ≡ t → IsAt (mend_from fresh (k + 1) words) fresh list backups → IsAt (mend_from fresh k (word ∷ words)) fresh list backups
-        by true is rest = rw is rest
-        by false is rest = rw is (omega arith)
+  where
+    by : (t : Bool) → (word == fresh) ≡ t → IsAt (mend_from fresh (k + 1) words) fresh list backups → IsAt (mend_from fresh k (word ∷ words)) fresh list backups
+    by true is rest = rw is rest
+    by false is rest = rw is (omega arith)
 
 on_verdict-is : (verdict : Verdict) (fresh backups : ℕ) (list : List ℕ) → judged list fresh ≡ verdict → IsAt (on_verdict verdict fresh list) fresh list backups
 on_verdict-is All fresh backups list is = tt
@@ -44,15 +45,22 @@ at_phase view write phase is at = record { held = is.held; is_view = is.is_view;
 gathered-is : (view : Viewed) (write : SlotWrite) (list : List ℕ) → IsSlotWrite view write → write.phase ≡ Gather
     → length list ≤ backup_count write.view write.slot → IsSlotWrite view (gathered write list)
 gathered-is view write list is gathers within = by (length list == backup_count write.view write.slot) refl
-  where by : (t : Bool) → (length list == backup_count write.view write.slot) ≡ t → IsSlotWrite view (gathered write list)
-        by true full = rw full (record {
-          held = is.held; is_view = is.is_view; slot = is.slot; list = within;
-          phase = on_verdict-is (judged list write.fresh) write.fresh (backup_count write.view write.slot) list refl;
-        })
-        by false more = rw more (record {
-          held = is.held; is_view = is.is_view; slot = is.slot; list = within;
-          phase = rw gathers (grind (arith, nat_tests));
-        })
+  where
+    by : (t : Bool) → (length list == backup_count write.view write.slot) ≡ t → IsSlotWrite view (gathered write list)
+    by true full = rw full (record {
+      held = is.held;
+      is_view = is.is_view;
+      slot = is.slot;
+      list = within;
+      phase = on_verdict-is (judged list write.fresh) write.fresh (backup_count write.view write.slot) list refl;
+    })
+    by false more = rw more (record {
+      held = is.held;
+      is_view = is.is_view;
+      slot = is.slot;
+      list = within;
+      phase = rw gathers (grind (arith, nat_tests));
+    })
 
 turn_at-is : (view : Viewed) (write : SlotWrite) (phase : Phase) (found : ℕ) → write.phase ≡ phase → IsSlotWrite view write → IsSlotWrite view (turn_at phase write found).state
 turn_at-is view write Gather found at is =
@@ -63,16 +71,18 @@ turn_at-is view write (Mend backup) found at is =
     let P : Phase → Type 0 = λ p. IsAt p write.fresh write.list (backup_count write.view write.slot) in
     let room : backup < length write.list = subst P at is.phase in
     at_phase view write _ is (mend_from-is write.fresh (backup + 1) (backup_count write.view write.slot) write.list (drop (backup + 1) write.list)
-        (omega (arith, length-drop (backup + 1) write.list)))
+    (omega (arith, length-drop (backup + 1) write.list)))
 turn_at-is view write Check found at is = by (found == write.expect) refl
-  where by : (t : Bool) → (found == write.expect) ≡ t → IsSlotWrite view (turn_at Check write found).state
-        by true same = rw same (at_phase view write _ is (mend_from-is write.fresh 0 (backup_count write.view write.slot) write.list write.list (omega arith)))
-        by false other = rw other is
+  where
+    by : (t : Bool) → (found == write.expect) ≡ t → IsSlotWrite view (turn_at Check write found).state
+    by true same = rw same (at_phase view write _ is (mend_from-is write.fresh 0 (backup_count write.view write.slot) write.list write.list (omega arith)))
+    by false other = rw other is
 turn_at-is view write Final found at is = is
 turn_at-is view write Wait found at is = by (found == write.expect) refl
-  where by : (t : Bool) → (found == write.expect) ≡ t → IsSlotWrite view (turn_at Wait write found).state
-        by true same = rw same is
-        by false other = rw other is
+  where
+    by : (t : Bool) → (found == write.expect) ≡ t → IsSlotWrite view (turn_at Wait write found).state
+    by true same = rw same is
+    by false other = rw other is
 
 -- a slot write stays one, whatever is answered
 pub turn-is : (view : Viewed) (write : SlotWrite) (answer : Answer) → IsSlotWrite view write → IsSlotWrite view (turn write answer).state

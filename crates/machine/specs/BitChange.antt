@@ -1,5 +1,5 @@
 -- The setting or clearing of an object's bit on each replica, the primary last.
-use Rattle.std.specs.Prelude.{◌≡◌, ℕ, ◌+◌, ◌<◌, ◌-◌, ◌/◌, ◌%◌, ◌^◌, Bool, true, not, ◌==◌, nat_lt, if◌then◌else◌}
+use Rattle.std.specs.Prelude.{◌≡◌, ℕ, ◌+◌, ◌<◌, ◌-◌, ◌/◌, ◌%◌, ◌^◌, Bool, not, ◌==◌, nat_lt, if◌then◌else◌}
 use Rattle.machine.specs.declared.bit_change.Changed.{Changed}
 use Rattle.machine.specs.declared.bit_change.Changed.TheVariants.{Going, Whole, Refused}
 use Rattle.machine.specs.EpochRead.{IsView}

@@ -9,7 +9,7 @@ use Rattle.machine.specs.declared.choosing.Took.TheVariants.{Going, Have, NoSpac
 use Rattle.machine.specs.EpochRead.{IsView}
 use Rattle.machine.specs.ObjectNames.{names_object}
 use Rattle.machine.specs.Places.{control, primary_place, replica_count, written_place}
-use Rattle.machine.specs.Stock.{ClassStock, OwnBlock, Phase, Rest, AskFirst, Scan, Ask, ReadBlock, Claim, Spread, ReadBitmap, WriteHead, IsStock, Stock, any_waits, class_stock, first_free, is_own, no_stock, object_bits, ripened, scanned_block, view_of, with_class_stock, with_reserve}
+use Rattle.machine.specs.Stock.{OwnBlock, Phase, Rest, AskFirst, Scan, Ask, ReadBlock, Claim, Spread, ReadBitmap, WriteHead, IsStock, Stock, any_waits, class_stock, first_free, is_own, no_stock, object_bits, ripened, scanned_block, view_of, with_class_stock, with_reserve}
 use Rattle.machine.specs.Turn.{Turn}
 use Rattle.region_view.specs.Control.{EpochWord, Begin, Head}
 use Rattle.object_form.specs.declared.classes.TheConstants.{CLASSES}

@@ -1,5 +1,5 @@
 -- The call of a client: its verbs, what each answer makes of it, and what it tells.
-use Rattle.std.specs.Prelude.{ℕ, ◌+◌, ◌-◌, ◌*◌, ◌%◌, ◌^◌, Bool, true, false, ◌&&◌, ◌==◌, nat_lt, nat_le, if◌then◌else◌, List, [], length, slice_index, Option, Some, None, option_map, unwrap_or}
+use Rattle.std.specs.Prelude.{ℕ, ◌+◌, ◌-◌, ◌*◌, ◌%◌, ◌^◌, Bool, true, false, ◌&&◌, ◌==◌, nat_lt, nat_le, if◌then◌else◌, List, [], length, slice_index, Option, Some, None}
 use Rattle.std.specs.Option.{option_map_or}
 use Rattle.machine.specs.declared.bit_change.Changed.{Changed}
 use Rattle.machine.specs.declared.bit_change.Changed.TheVariants as changed

@@ -6,7 +6,6 @@ use Rattle.pointer_fields.specs.Pointer.{pointer_of, region_of, unit_of}
 use Rattle.object_form.specs.Block.{block_of_unit, object_of_unit}
 use Rattle.object_form.specs.Class.{units_of}
 use Rattle.object_form.specs.declared.classes.TheConstants.{CLASSES}
-use Rattle.race_slot.specs.declared.Slot.{Slot}
 use Rattle.race_slot.specs.Slot.{slot_word, unpacked}
 use Rattle.region_view.specs.Layout.{NodeWord, Bitmap}
 use Rattle.region_view.specs.Sizes.{Sizes, is_size}

@@ -3,7 +3,7 @@ use Rattle.std.specs.Prelude.{◌≡◌, ℕ, ◌+◌, ◌-◌, ◌/◌, ◌%◌
 use Rattle.verb_words.specs.declared.verbs.Place.{Place}
 use Rattle.pointer_fields.specs.Pointer.{region_of, unit_of}
 use Rattle.region_view.specs.Control.{ControlWord, control_position}
-use Rattle.region_view.specs.Layout.{NodeWord, Slot, Shadow, BlockWord, Bitmap, UnitWord, position_of, region_of_word}
+use Rattle.region_view.specs.Layout.{NodeWord, Slot, Shadow, UnitWord, position_of, region_of_word}
 use Rattle.region_view.specs.Placed.{Viewed, replicas_of}
 use Rattle.region_view.specs.Sizes.{Sizes, node_words}
 

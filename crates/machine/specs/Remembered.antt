@@ -1,5 +1,5 @@
 -- The places that a client remembers: pairs of a key and a place in its order, the newest first, at most 16.
-use Rattle.std.specs.Prelude.{ℕ, Bool, not, List, ◌∷◌, take, filter, find, option_map, Option, unwrap_or, bytes_eq}
+use Rattle.std.specs.Prelude.{ℕ, Bool, not, List, ◌∷◌, take, filter, find, option_map, unwrap_or, bytes_eq}
 
 abbrev pub Pair : Type 0
 Pair = List ℕ × ℕ

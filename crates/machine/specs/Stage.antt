@@ -1,5 +1,5 @@
 -- The stages of a client's call, and the client with its call.
-use Rattle.std.specs.Prelude.{ℕ, List, [], ◌∷◌, Option, None}
+use Rattle.std.specs.Prelude.{ℕ, List, [], Option, None}
 use Rattle.machine.specs.declared.client_call.Outcome.{Outcome}
 use Rattle.machine.specs.declared.client_call.Outcome.TheVariants.{Done}
 use Rattle.machine.specs.BitChange.{BitChange}

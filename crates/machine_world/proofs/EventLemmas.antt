@@ -1,16 +1,15 @@
 -- What each kind of event changes, and what it leaves.
-use Rattle.std.proofs.Common.{◌≡◌, ◌≢◌, ℕ, ◌+◌, ◌<◌, Bool, true, false, ◌&&◌, List, [], ◌∷◌, ◌++◌, length, map, get_or, set, Option, Some, None, refl, sym, ap, subst, ◌∙◌, arith, length-set}
-use Rattle.std.specs.Prelude.{if◌then◌else◌, not, replicate, slice_index_or, slice_set}
+use Rattle.std.proofs.Common.{◌≡◌, ◌≢◌, ℕ, ◌<◌, Bool, true, false, List, [], length, map, Option, Some, None, refl, length-set}
+use Rattle.std.specs.Prelude.{not, replicate, slice_set}
 use Rattle.std.proofs.Math.Seq.{map-set_same}
 use Rattle.std.proofs.lemmas.List.{get_or-set_other, get_or-set_same}
 use Rattle.std.proofs.Math.ListN.{length-replicate}
-use Rattle.machine.specs.Client.{after, told}
+use Rattle.machine.specs.Client.{after}
 use Rattle.machine.specs.Joining as joinings
 use Rattle.machine.specs.Places.{control}
 use Rattle.machine.specs.Recovery as recoveries
 use Rattle.machine.specs.Settling as settlings
-use Rattle.machine.specs.Stage.{Client}
-use Rattle.machine_world.specs.Events.{acts, answer_of, answered, fills, happens, loses, moments_of, nodes_after, occurs, verb_event, verb_of, works, works_on, works_on_joining, works_on_recovery, works_on_settling}
+use Rattle.machine_world.specs.Events.{acts, answer_of, happens, occurs, verb_event, verb_of, works, works_on}
 use Rattle.machine_world.specs.Refusals.{refusal}
 use Rattle.machine_world.specs.World.{Joins, NoTask, Recovers, Settles, TaskState, World, client_at, nobody}
 use Rattle.machine_world.specs.declared.events.Event.{Event}
@@ -18,12 +17,11 @@ use Rattle.machine_world.specs.declared.events.Event.TheVariants.{Register, Invo
 use Rattle.machine_world.specs.declared.outcomes.Refused.{Refused}
 use Rattle.region_view.specs.Control.{Status}
 use Rattle.verb_words.proofs.WordsLemmas.{word_at-with_word-other}
-use Rattle.verb_words.specs.declared.verbs.Answer.{Answer}
 use Rattle.verb_words.specs.declared.verbs.Place.{Place}
 use Rattle.verb_words.specs.declared.verbs.Verb.{Verb}
 use Rattle.verb_words.specs.Applied.{is_refused, words_after}
 use Rattle.verb_words.specs.Verb.{place_of, word_after}
-use Rattle.verb_words.specs.Words.{HasPlace, is_lost, with_word, word_at, words_on}
+use Rattle.verb_words.specs.Words.{with_word, word_at, words_on}
 
 -- an event that is refused leaves the world as it was
 pub refused : (world : World) (event : Event) (reason : Refused) → refusal world event ≡ Some reason → happens world event ≡ world
@@ -43,16 +41,18 @@ with_word-lengths words place word =
 -- so does a verb
 pub words_after-lengths : (words : List (List ℕ)) (verb : Verb) (refuse : Bool) → map length (words_after words verb refuse) ≡ map length words
 words_after-lengths words verb refuse = by (is_refused words verb refuse) refl
-  where by : (t : Bool) → is_refused words verb refuse ≡ t → map length (words_after words verb refuse) ≡ map length words
-        by true is = rw is refl
-        by false is = rw is (with_word-lengths words (place_of verb) (word_after verb (word_at words (place_of verb))))
+  where
+    by : (t : Bool) → is_refused words verb refuse ≡ t → map length (words_after words verb refuse) ≡ map length words
+    by true is = rw is refl
+    by false is = rw is (with_word-lengths words (place_of verb) (word_after verb (word_at words (place_of verb))))
 
 -- a verb changes the word of its own place alone
 pub words_after-others : (words : List (List ℕ)) (verb : Verb) (refuse : Bool) (other : Place) → other ≢ place_of verb → word_at (words_after words verb refuse) other ≡ word_at words other
 words_after-others words verb refuse other differ = by (is_refused words verb refuse) refl
-  where by : (t : Bool) → is_refused words verb refuse ≡ t → word_at (words_after words verb refuse) other ≡ word_at words other
-        by true is = rw is refl
-        by false is = rw is (word_at-with_word-other words (place_of verb) (word_after verb (word_at words (place_of verb))) other differ)
+  where
+    by : (t : Bool) → is_refused words verb refuse ≡ t → word_at (words_after words verb refuse) other ≡ word_at words other
+    by true is = rw is refl
+    by false is = rw is (word_at-with_word-other words (place_of verb) (word_after verb (word_at words (place_of verb))) other differ)
 
 -- How many words each node has.
 
@@ -77,9 +77,10 @@ occurs-lengths world Work = works_on-lengths world world.master.task
 -- no event changes how many words a node has
 pub happens-lengths : (world : World) (event : Event) → map length (happens world event).nodes ≡ map length world.nodes
 happens-lengths world event = by (refusal world event) refl
-  where by : (reason : Option Refused) → refusal world event ≡ reason → map length (happens world event).nodes ≡ map length world.nodes
-        by None is = rw is (occurs-lengths world event)
-        by (Some reason) is = rw is refl
+  where
+    by : (reason : Option Refused) → refusal world event ≡ reason → map length (happens world event).nodes ≡ map length world.nodes
+    by None is = rw is (occurs-lengths world event)
+    by (Some reason) is = rw is refl
 
 -- Verbs of clients.
 

@@ -1,5 +1,5 @@
 -- Runs, one event more.
-use Rattle.std.proofs.Common.{◌≡◌, ℕ, ◌+◌, List, [], ◌∷◌, ◌++◌, refl, sym, ap, ◌∙◌, add_assoc, zero-add, add-zero, arith}
+use Rattle.std.proofs.Common.{◌≡◌, ℕ, ◌+◌, List, [], ◌∷◌, ◌++◌, refl, sym, ap, ◌∙◌, add_assoc, zero-add, add-zero}
 use Rattle.machine_world.specs.Events.{happens}
 use Rattle.machine_world.specs.Runs.{run, run_from, verbs_at, verbs_from, verbs_taken}
 use Rattle.machine_world.specs.World.{World, first_world}

@@ -1,5 +1,5 @@
 -- A client's call as the trace and the history tell it.
-use Rattle.std.specs.Prelude.{ℕ, List, [], length}
+use Rattle.std.specs.Prelude.{ℕ, List, []}
 use Rattle.machine.specs.declared.client_call.Outcome.{Outcome}
 use Rattle.machine.specs.declared.client_call.Outcome.TheVariants as outcome
 use Rattle.machine.specs.Stage.{Client, Operation, Get, Put, Delete}

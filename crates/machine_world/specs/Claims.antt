@@ -1,14 +1,14 @@
 -- What is said of the world and of its runs: the headline, and the words that it is made of.
-use Rattle.std.specs.Prelude.{◌≡◌, ◌≢◌, ℕ, ◌+◌, ◌-◌, ◌*◌, ◌%◌, ◌<◌, ◌≤◌, ◌↔◌, Bool, true, false, ◌&&◌, ◌||◌, ◌==◌, not, if◌then◌else◌, List, [], ◌∷◌, ◌++◌, length, take, map, slice_get, slice_index, slice_index_or, All, Contains, Option, Some, None, IsTrue}
-use Rattle.std.specs.List.{list_all, list_any, range_with_len}
+use Rattle.std.specs.Prelude.{◌≡◌, ℕ, ◌+◌, ◌*◌, ◌%◌, ◌<◌, ◌≤◌, ◌↔◌, Bool, true, false, ◌&&◌, ◌||◌, ◌==◌, not, if◌then◌else◌, List, [], ◌∷◌, length, take, map, slice_index, All, Option, Some, None, IsTrue}
+use Rattle.std.specs.List.{list_all, range_with_len}
 use Rattle.std.specs.Option.{option_map_or}
 use Rattle.machine.specs.KeyTest.{fits}
-use Rattle.machine.specs.ObjectNames.{Object, candidate_in, names_object}
+use Rattle.machine.specs.ObjectNames.{Object, candidate_in}
 use Rattle.machine.specs.Places.{control, object_word, place_of_home, slot_homes_of}
 use Rattle.machine.specs.Remembered.{Pair}
 use Rattle.machine_world.specs.Events.{happens}
 use Rattle.machine_world.specs.Ledger.{history_of}
-use Rattle.machine_world.specs.Readings.{block_state, deciding_word, epoch_in_force, granted_objects, is_in_stock, is_sealed, is_unfinished, names, slot_of_present, state_of_object, view_in_force, word_in_force}
+use Rattle.machine_world.specs.Readings.{block_state, deciding_word, epoch_in_force, granted_objects, is_in_stock, is_sealed, is_unfinished, names, state_of_object, view_in_force, word_in_force}
 use Rattle.machine_world.specs.Runs.{run}
 use Rattle.machine_world.specs.World.{World, client_at, first_world, is_among, is_registered, is_stopped}
 use Rattle.machine_world.specs.declared.events.Event.{Event}
@@ -117,9 +117,10 @@ RemembersRightly world = (client : ℕ) → All (λ pair. is_right world pair �
 abbrev pub backup_words : World → ℕ → List ℕ
 backup_words world slot =
     map (λ home. word_at world.nodes (place_of_home world.shape home)) (backups_of (slot_homes_of (view_in_force world.shape world.nodes) slot))
-  where backups_of : {A : Type 0} → List A → List A
-        backups_of [] = []
-        backups_of (home ∷ homes) = homes
+  where
+    backups_of : {A : Type 0} → List A → List A
+    backups_of [] = []
+    backups_of (home ∷ homes) = homes
 
 -- whether a round ends: another word decides, or another view is opened
 abbrev pub ends_round : World → World → ℕ → Bool

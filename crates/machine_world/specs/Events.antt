@@ -37,7 +37,7 @@ use Rattle.map_model.specs.declared.calls.Call.{Call}
 use Rattle.map_model.specs.Trace.{Moment, Invoked, Returned, Stopped}
 use Rattle.region_view.specs.Control.{Status}
 use Rattle.verb_words.specs.declared.verbs.Answer.{Answer}
-use Rattle.verb_words.specs.declared.verbs.Answer.TheVariants.{Word, Done, Lost}
+use Rattle.verb_words.specs.declared.verbs.Answer.TheVariants.{Word, Done}
 use Rattle.verb_words.specs.declared.verbs.Verb.{Verb}
 use Rattle.verb_words.specs.Applied.{answer_to, words_after}
 use Rattle.verb_words.specs.Words.{with_word, words_on}
@@ -85,9 +85,9 @@ moments_of client (step.NotYet reason) = []
 abbrev pub ledger_after : World → List (List ℕ) → Client → Answer → Step → Ledger
 ledger_after world now client answer tells =
     with_return client tells world.events
-        (with_taking world.shape world.nodes now client
-        (with_final world.shape world.nodes now world.events (caller_of client) (final_of client.stage)
-        (with_read world.events client answer world.ledger)))
+    (with_taking world.shape world.nodes now client
+    (with_final world.shape world.nodes now world.events (caller_of client) (final_of client.stage)
+    (with_read world.events client answer world.ledger)))
 
 -- a client that gets this answer, and leaves these words
 abbrev pub answered : World → ℕ → Answer → List (List ℕ) → World
@@ -197,7 +197,7 @@ works_on_recovery world recovery answer now = record world {
     recovered = also_if (is_recovered (recoveries.turn recovery answer).told) recovery.client world.master.recovered;
   };
   ledger =
-    with_final world.shape world.nodes now world.events (caller_of (client_at world recovery.client)) (final_of_recovery recovery.stage) world.ledger;
+      with_final world.shape world.nodes now world.events (caller_of (client_at world recovery.client)) (final_of_recovery recovery.stage) world.ledger;
   events = world.events + 1;
 }
 
@@ -251,8 +251,8 @@ seen_by by verb answer = record { actor = by; verb = verb; answer = answer }
 abbrev pub step_of : Bool → World → ℕ → Happened
 step_of late world client =
     happened.Stepped
-        (seen_by (actor.Client client) (verb_of world client) (answer_of late world client))
-        (told (client_at world client) (answer_of late world client))
+    (seen_by (actor.Client client) (verb_of world client) (answer_of late world client))
+    (told (client_at world client) (answer_of late world client))
 
 abbrev pub work_of : World → TaskState → Happened
 work_of world NoTask = happened.Chosen

@@ -1,5 +1,5 @@
 -- How calls come into the history, and who holds objects.
-use Rattle.std.specs.Prelude.{ℕ, ◌+◌, ◌-◌, ◌*◌, ◌^◌, Bool, true, false, not, ◌&&◌, ◌||◌, ◌==◌, nat_lt, if◌then◌else◌, List, [], ◌∷◌, ◌++◌, length, map, slice_get, slice_index_or, slice_set, Option, Some, None}
+use Rattle.std.specs.Prelude.{ℕ, ◌+◌, ◌-◌, ◌*◌, Bool, true, false, not, ◌&&◌, ◌||◌, ◌==◌, nat_lt, if◌then◌else◌, List, [], ◌∷◌, ◌++◌, length, map, slice_get, slice_index_or, slice_set, Option, Some, None}
 use Rattle.std.specs.List.{range_with_len}
 use Rattle.std.specs.Option.{option_and_then, option_map_or}
 use Rattle.machine.specs.declared.client_call.Outcome.{Outcome}
@@ -15,9 +15,8 @@ use Rattle.machine.specs.SlotWrite.{SlotWrite}
 use Rattle.machine.specs.Stage.{Client, Stage, Seek, Find, WriteSlot}
 use Rattle.machine_world.specs.Calls.{call_of, reply_of}
 use Rattle.machine_world.specs.Readings.{deciding_word, has_returned, is_in_stock, is_unfinished, unit_index, word_in_force}
-use Rattle.machine_world.specs.World.{Decided, Entered, Ledger, Point, World, client_at, is_registered}
+use Rattle.machine_world.specs.World.{Decided, Entered, Ledger, Point, World, client_at}
 use Rattle.map_model.specs.declared.calls.Call.{Call}
-use Rattle.map_model.specs.declared.calls.Reply.{Reply}
 use Rattle.map_model.specs.declared.calls.Reply.TheVariants as reply
 use Rattle.map_model.specs.declared.entries.Entry.{Entry}
 use Rattle.object_form.specs.declared.links.Link.{Link}
@@ -61,7 +60,10 @@ winner_rank = 4294967295
 abbrev pub with_done : ℕ → ℕ → Caller → Ledger → Ledger
 with_done event slot caller ledger = record ledger {
   entries = ledger.entries ++ record {
-    client = caller.client; number = caller.number; call = caller.call; reply = reply.Done;
+    client = caller.client;
+    number = caller.number;
+    call = caller.call;
+    reply = reply.Done;
     at = record { event = event; slot = slot; rank = winner_rank };
   } ∷ [];
 }
@@ -204,7 +206,7 @@ with_opened_slot world now ledger slot =
     if deciding_word world.shape world.nodes slot == deciding_word world.shape now slot
     then ledger
     else with_decision world.shape world.events slot (deciding_word world.shape world.nodes slot)
-        (caller_in world now (deciding_word world.shape now slot)) ledger
+    (caller_in world now (deciding_word world.shape now slot)) ledger
 
 abbrev pub with_opened_slots : World → List (List ℕ) → Ledger → List ℕ → Ledger
 with_opened_slots world now ledger [] = ledger
@@ -223,7 +225,7 @@ with_opened_clients world now ledger (client ∷ clients) =
 unfoldable pub with_opening : World → List (List ℕ) → Ledger → Ledger
 with_opening world now ledger =
     with_opened_clients world now (with_opened_slots world now ledger (range_with_len 0 (24 * world.shape.groups)))
-        (range_with_len 0 (length world.clients))
+    (range_with_len 0 (length world.clients))
 
 -- The history.
 
@@ -232,7 +234,7 @@ abbrev pub is_before : Point → Point → Bool
 is_before one other =
     nat_lt one.event other.event
     || ((one.event == other.event)
-        && (nat_lt one.slot other.slot || ((one.slot == other.slot) && nat_lt one.rank other.rank)))
+    && (nat_lt one.slot other.slot || ((one.slot == other.slot) && nat_lt one.rank other.rank)))
 
 abbrev pub inserted : Entered → List Entered → List Entered
 inserted one [] = one ∷ []

@@ -1,5 +1,5 @@
 -- What can be read off the world: the words that decide, and where blocks, objects and calls stand.
-use Rattle.std.specs.Prelude.{ℕ, ◌+◌, ◌-◌, ◌*◌, ◌/◌, ◌%◌, ◌^◌, Bool, true, false, not, ◌&&◌, ◌||◌, ◌==◌, nat_lt, if◌then◌else◌, List, [], ◌∷◌, length, map, find, count_by, slice_index_or, Option, Some, None}
+use Rattle.std.specs.Prelude.{ℕ, ◌+◌, ◌-◌, ◌*◌, ◌/◌, ◌%◌, ◌^◌, Bool, true, false, not, ◌&&◌, ◌||◌, ◌==◌, nat_lt, if◌then◌else◌, List, [], map, find, count_by, slice_index_or, Option, Some, None}
 use Rattle.std.specs.List.{flat_map, range_with_len}
 use Rattle.std.specs.Option.{option_map_or}
 use Rattle.block_alloc.specs.declared.BlockWord.{BlockWord}
@@ -9,7 +9,7 @@ use Rattle.machine.specs.BitChange.{has_bit}
 use Rattle.machine.specs.Client.{is_idle}
 use Rattle.machine.specs.ObjectNames.{Object, bitmap_of, block_of, number_of, object_in, pointer_to}
 use Rattle.machine.specs.Places.{control, place_of_home}
-use Rattle.machine_world.specs.World.{Entered, World, client_at, is_among, is_registered, is_stopped}
+use Rattle.machine_world.specs.World.{World, client_at, is_among, is_registered, is_stopped}
 use Rattle.machine_world.specs.declared.parts.BlockState.{BlockState}
 use Rattle.machine_world.specs.declared.parts.BlockState.TheVariants as of_block
 use Rattle.machine_world.specs.declared.parts.Division.{Division}

@@ -1,5 +1,5 @@
 -- Why an event is refused, each reason in its order.
-use Rattle.std.specs.Prelude.{ℕ, ◌+◌, Bool, not, ◌&&◌, ◌==◌, nat_le, if◌then◌else◌, List, length, find, Option, Some, None}
+use Rattle.std.specs.Prelude.{ℕ, ◌+◌, Bool, not, ◌&&◌, ◌==◌, nat_le, if◌then◌else◌, length, find, Option, Some, None}
 use Rattle.std.specs.List.{list_any, range_with_len}
 use Rattle.std.specs.Option.{option_map_or}
 use Rattle.machine.specs.declared.client_call.Before.{Before}
@@ -40,9 +40,9 @@ abbrev pub of_call : World → ℕ → Call → Option Refused
 of_call world client call =
     if is_idle (client_at world client)
     then option_map_or
-        (λ why. Some (of_lengths client why))
-        (refusal_of_call (client_at world client) (length (key_of call)) (length (value_of call)))
-        None
+    (λ why. Some (of_lengths client why))
+    (refusal_of_call (client_at world client) (length (key_of call)) (length (value_of call)))
+    None
     else Some (refused.Busy client)
 
 abbrev pub of_step : World → ℕ → Option Refused → Option Refused

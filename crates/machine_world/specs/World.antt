@@ -1,5 +1,5 @@
 -- The state of the world.
-use Rattle.std.specs.Prelude.{ℕ, ◌*◌, ◌<◌, Bool, ◌&&◌, ◌==◌, nat_lt, List, [], ◌∷◌, length, replicate, slice_index_or}
+use Rattle.std.specs.Prelude.{ℕ, ◌*◌, Bool, ◌&&◌, ◌==◌, nat_lt, List, [], ◌∷◌, length, replicate, slice_index_or}
 use Rattle.std.specs.List.{list_any}
 use Rattle.machine.specs.Joining.{Joining}
 use Rattle.machine.specs.RecoveryStage.{Recovery}
