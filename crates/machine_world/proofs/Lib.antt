@@ -1,3 +1,4 @@
 pub mod EventLemmas
+pub mod ExampleLemmas
 pub mod RunLemmas
 pub mod StandingLemmas

@@ -1,6 +1,7 @@
 pub mod Calls
 pub mod Claims
 pub mod Events
+pub mod Examples
 pub mod Ledger
 pub mod Readings
 pub mod Refusals
