@@ -1,8 +1,15 @@
 pub mod FirstFaultLemmas
+pub mod FormedLemmas
 pub mod LineFormLemmas
 pub mod LineMeaningLemmas
+pub mod MeantLemmas
+pub mod OutputLemmas
+pub mod PrintedLemmas
+pub mod PrintedTextLemmas
+pub mod ReadingLemmas
 pub mod ScriptFormLemmas
 pub mod ScriptReadLemmas
 pub mod ShapeFormLemmas
+pub mod ShapeLemmas
 pub mod SoundLemmas
 pub mod WordValueLemmas

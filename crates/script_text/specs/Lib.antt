@@ -3,9 +3,17 @@ pub mod Keyword
 pub mod LineForm
 pub mod LineRead
 pub mod Meaning
+pub mod OutputForm
+pub mod OutputMeaning
+pub mod OutputPart
+pub mod OutputPlace
+pub mod OutputRead
+pub mod OutputShape
+pub mod OutputText
 pub mod ScriptForm
 pub mod ScriptRead
 pub mod ShapeForm
+pub mod Shown
 pub mod Sound
 pub mod WordCount
 pub mod WordValue

@@ -9,6 +9,13 @@ pub mod laws;
 mod line_faults;
 mod line_reading;
 mod out_lines;
+mod out_names;
+mod out_reading;
+mod out_words;
+pub mod output_laws;
+#[cfg(test)]
+mod output_tests;
+mod outputs;
 mod script_reading;
 #[cfg(test)]
 mod script_tests;
@@ -16,9 +23,12 @@ mod scripts;
 mod shape_reading;
 mod word_counts;
 mod word_values;
+mod writing;
 
 pub use byte_text::Text;
 pub use faults::{BadKind, ScriptFault};
 pub use out_lines::{NotYetText, OutLine, RefusalText, ReplyText};
+pub use outputs::parse_output;
 pub use script_reading::{MOST_BYTES, parse};
 pub use scripts::{CallText, Line, Script, Shape};
+pub use writing::line_text;
