@@ -1,0 +1,4 @@
+pub mod Fits
+pub mod Tables
+pub mod Told
+pub mod Traced
