@@ -1,4 +1,5 @@
 pub mod NameLemmas
 pub mod PlaceLemmas
+pub mod ReadingLemmas
 pub mod TidyLemmas
 pub mod ToldLemmas

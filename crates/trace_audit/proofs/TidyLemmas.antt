@@ -192,24 +192,24 @@ module _ (trace : List Moment) (tidy : IsTidy trace) (client number : ℕ) (repl
 
   pub tidy-returned : IsTidy (trace ++ Reply_now ∷ [])
   tidy-returned = tidy-replies trace tidy Reply_now no_call
-    (λ c n i j a b h k. elim (get-push trace Reply_now i (Returned c n a) h) [
-      | inl old ↦ elim (get-push trace Reply_now j (Returned c n b) k) [
-        | inl older ↦ tidy.returned_once c n i j a b old older
-        | inr new ↦ let name = same_call c n b new.1 in absurd (not_before c n i a old name.0 name.1)
-      ]
-      | inr now ↦ elim (get-push trace Reply_now j (Returned c n b) k) [
-        | inl older ↦ let name = same_call c n a now.1 in absurd (not_before c n j b older name.0 name.1)
-        | inr new ↦ now.0 ∙ sym new.0
-      ]
-    ])
-    (λ c n j a h. elim (get-push trace Reply_now j (Returned c n a) h) [
-      | inl old ↦ let first = tidy.called_first c n j a old in (first.0, first.1, get-left trace (Reply_now ∷ []) first.0 (Invoked c n first.1) first.2, first.3)
-      | inr now ↦
-          let name = same_call c n a now.1 in
-          let there : IsCalled trace c n = rw (sym name.0, sym name.1) may.0.0 in
-          let within = slice_get_within trace there.0 (Invoked c n there.1) there.2 in
-          (there.0, there.1, get-left trace (Reply_now ∷ []) there.0 (Invoked c n there.1) there.2, omega (arith, within, now.0))
-    ])
+      (λ c n i j a b h k. elim (get-push trace Reply_now i (Returned c n a) h) [
+        | inl old ↦ elim (get-push trace Reply_now j (Returned c n b) k) [
+          | inl older ↦ tidy.returned_once c n i j a b old older
+          | inr new ↦ let name = same_call c n b new.1 in absurd (not_before c n i a old name.0 name.1)
+        ]
+        | inr now ↦ elim (get-push trace Reply_now j (Returned c n b) k) [
+          | inl older ↦ let name = same_call c n a now.1 in absurd (not_before c n j b older name.0 name.1)
+          | inr new ↦ now.0 ∙ sym new.0
+        ]
+      ])
+      (λ c n j a h. elim (get-push trace Reply_now j (Returned c n a) h) [
+        | inl old ↦ let first = tidy.called_first c n j a old in (first.0, first.1, get-left trace (Reply_now ∷ []) first.0 (Invoked c n first.1) first.2, first.3)
+        | inr now ↦
+            let name = same_call c n a now.1 in
+            let there : IsCalled trace c n = rw (sym name.0, sym name.1) may.0.0 in
+            let within = slice_get_within trace there.0 (Invoked c n there.1) there.2 in
+            (there.0, there.1, get-left trace (Reply_now ∷ []) there.0 (Invoked c n there.1) there.2, omega (arith, within, now.0))
+      ])
 
 -- ---- a stop
 
@@ -222,5 +222,5 @@ module _ (trace : List Moment) (tidy : IsTidy trace) (client : ℕ) where
 
   pub tidy-stopped : IsTidy (trace ++ Stopped client ∷ [])
   tidy-stopped = tidy-replies trace tidy (Stopped client) stop_no_call
-    (λ c n i j a b h k. tidy.returned_once c n i j a b (old_reply trace (Stopped client) stop_no_reply c n i a h) (old_reply trace (Stopped client) stop_no_reply c n j b k))
-    (λ c n j a h. let old = tidy.called_first c n j a (old_reply trace (Stopped client) stop_no_reply c n j a h) in (old.0, old.1, get-left trace (Stopped client ∷ []) old.0 (Invoked c n old.1) old.2, old.3))
+      (λ c n i j a b h k. tidy.returned_once c n i j a b (old_reply trace (Stopped client) stop_no_reply c n i a h) (old_reply trace (Stopped client) stop_no_reply c n j b k))
+      (λ c n j a h. let old = tidy.called_first c n j a (old_reply trace (Stopped client) stop_no_reply c n j a h) in (old.0, old.1, get-left trace (Stopped client ∷ []) old.0 (Invoked c n old.1) old.2, old.3))

@@ -73,7 +73,7 @@ module _ (trace : List Moment) (calls : Calls) (told : IsTold trace calls) where
 
   same_stops : (calls' : Calls) (x : Moment) → ((c : ℕ) → x ≡ Stopped c → ⊥) → calls'.stopped ≡ calls.stopped → (c : ℕ) → MatchBool (set.contains nat_cmp calls'.stopped c) (IsStopped (trace ++ x ∷ []) c) (IsStopped (trace ++ x ∷ []) c → ⊥)
   same_stops calls' x other e c = bool_same _ _ _ _ (ap (λ s. set.contains nat_cmp s c) e)
-    (bool_map (set.contains nat_cmp calls.stopped c) _ _ _ _ (stopped-left trace (x ∷ []) c) (λ not h. not (old_stopped trace x other c h)) (told.stopped c))
+      (bool_map (set.contains nat_cmp calls.stopped c) _ _ _ _ (stopped-left trace (x ∷ []) c) (λ not h. not (old_stopped trace x other c h)) (told.stopped c))
 
   module _ (calls' : Calls) (client number : ℕ) (row : Row) (entered : (c n : ℕ) → call_row calls'.table c n ≡ (if (c == client) && (n == number) then Some row else call_row calls.table c n)) where
     entered_same : (c n : ℕ) → ((c == client) && (n == number)) ≡ true → call_row calls'.table c n ≡ Some row
@@ -115,7 +115,7 @@ module _ (trace : List Moment) (calls : Calls) (told : IsTold trace calls) where
       rows = λ c n. elim (same_or_other client number c n) [
         | inl same ↦ match_same (call_row calls'.table c n) (Some row) _ _ (entered_same calls' client number row entered c n same.2) (rw (same.0, same.1) (new_row at pending is))
         | inr other ↦ match_same (call_row calls'.table c n) (call_row calls.table c n) _ _ (entered_other calls' client number row entered c n other.1)
-          (match_map (call_row calls.table c n) _ _ _ _ (not_called c n other.0) (λ old. row-left trace (Call_now ∷ []) c n old (old_returned trace Call_now call_no_reply c n)) (told.rows c n))
+            (match_map (call_row calls.table c n) _ _ _ _ (not_called c n other.0) (λ old. row-left trace (Call_now ∷ []) c n old (old_returned trace Call_now call_no_reply c n)) (told.rows c n))
       ];
       tidy = tidy-called trace told.tidy client number call may (all_returned client may.0);
     }
@@ -151,7 +151,7 @@ module _ (trace : List Moment) (calls : Calls) (told : IsTold trace calls) where
       rows = λ c n. elim (same_or_other client number c n) [
         | inl same ↦ match_same (call_row calls'.table c n) (Some row) _ _ (entered_same calls' client number row entered c n same.2) (rw (same.0, same.1) (returned_row r at call_is is now reply_is old))
         | inr other ↦ match_same (call_row calls'.table c n) (call_row calls.table c n) _ _ (entered_other calls' client number row entered c n other.1)
-          (match_map (call_row calls.table c n) _ _ _ _ (λ not h. not (old_called trace Reply_now reply_no_call c n h)) (λ kept. row-left trace (Reply_now ∷ []) c n kept (other_reply c n other.0)) (told.rows c n))
+            (match_map (call_row calls.table c n) _ _ _ _ (λ not h. not (old_called trace Reply_now reply_no_call c n h)) (λ kept. row-left trace (Reply_now ∷ []) c n kept (other_reply c n other.0)) (told.rows c n))
       ];
       tidy = tidy-returned trace told.tidy client number reply may;
     }
@@ -176,7 +176,7 @@ module _ (trace : List Moment) (calls : Calls) (told : IsTold trace calls) where
       moments = more_moments calls' Stop_now moments;
       stopped = λ c. by_client c (c == client) refl;
       rows = λ c n. match_same (call_row calls'.table c n) (call_row calls.table c n) _ _ (ap (λ t. call_row t c n) table)
-        (match_map (call_row calls.table c n) _ _ _ _ (λ not h. not (old_called trace Stop_now stop_no_call c n h)) (λ kept. row-left trace (Stop_now ∷ []) c n kept (old_returned trace Stop_now stop_no_reply c n)) (told.rows c n));
+          (match_map (call_row calls.table c n) _ _ _ _ (λ not h. not (old_called trace Stop_now stop_no_call c n h)) (λ kept. row-left trace (Stop_now ∷ []) c n kept (old_returned trace Stop_now stop_no_reply c n)) (told.rows c n));
       tidy = tidy-stopped trace told.tidy client;
     }
       where

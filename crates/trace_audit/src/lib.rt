@@ -3,4 +3,6 @@
 #![tactic(auto)]
 
 mod calls;
+mod listing;
+mod reading;
 mod tables;
