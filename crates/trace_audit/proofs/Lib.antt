@@ -1,3 +1,4 @@
+pub mod JudgeLemmas
 pub mod NameLemmas
 pub mod PlaceLemmas
 pub mod ReadingLemmas

@@ -1,6 +1,9 @@
+pub mod Faults
 pub mod Fits
+pub mod Judged
 pub mod Listing
 pub mod Reading
 pub mod Tables
 pub mod Told
 pub mod Traced
+pub mod Verdicts

@@ -21,6 +21,10 @@ pub record IsTidy (trace : List Moment) : Type 0 where
   pub returned_once : (c n i j : ℕ) (a b : Reply) → slice_get trace i ≡ Some (Returned c n a) → slice_get trace j ≡ Some (Returned c n b) → i ≡ j
   pub called_first : (c n j : ℕ) (a : Reply) → slice_get trace j ≡ Some (Returned c n a) → (i : ℕ) × (call : Call) × (slice_get trace i ≡ Some (Invoked c n call)) × (i < j)
 
+-- the client's call of this number returned at this time
+abbrev pub RepliedAt : List Moment → ℕ → ℕ → ℕ → Type 0
+RepliedAt trace client number time = (reply : Reply) × (slice_get trace time ≡ Some (Returned client number reply))
+
 -- the row is that of the client's call of this number
 pub record IsRow (trace : List Moment) (client number : ℕ) (row : Row) : Type 0 where
   pub called : slice_get trace row.invoked ≡ Some (Invoked client number (call_of row.call.now))

@@ -2,7 +2,14 @@
 //! moments of its calls, and the list of its last history is held against them.
 #![tactic(auto)]
 
+mod auditing;
 mod calls;
+mod judging;
 mod listing;
 mod reading;
+mod replies;
 mod tables;
+mod verdicts;
+
+pub use auditing::audit;
+pub use verdicts::{Fault, Verdict};
