@@ -1,6 +1,9 @@
 -- Places in a list that goes on.
-use Rattle.std.proofs.Common.{◌≡◌, ℕ, zero, suc, List, [], ◌∷◌, ◌++◌, length, Some, set, refl, ap}
+use Rattle.std.proofs.Common.{◌≡◌, ℕ, zero, suc, ◌+◌, ◌⊎◌, inl, inr, List, [], ◌∷◌, ◌++◌, length, Some, set, refl, ap}
+use Rattle.std.proofs.Common.{sym, zero-add}
+use Rattle.std.proofs.Math.Nat.{suc-add}
 use Rattle.std.specs.Prelude.{slice_get}
+use Rattle.std.proofs.lemmas.Option.{same_Some}
 
 -- what stands in a list stands there in what it goes on to
 pub get-left : {X : Type 0} (xs ys : List X) (i : ℕ) (x : X) → slice_get xs i ≡ Some x → slice_get (xs ++ ys) i ≡ Some x
@@ -25,3 +28,23 @@ get-set_other (y ∷ xs) zero zero v x apart h = absurd (apart refl)
 get-set_other (y ∷ xs) zero (suc j) v x apart h = h
 get-set_other (y ∷ xs) (suc i) zero v x apart h = h
 get-set_other (y ∷ xs) (suc i) (suc j) v x apart h = get-set_other xs i j v x (λ e. apart (ap suc e)) h
+
+-- what stands in the second of two lists stands in both, the first before it
+pub get-right : {X : Type 0} (xs ys : List X) (i : ℕ) (x : X) → slice_get ys i ≡ Some x → slice_get (xs ++ ys) (length xs + i) ≡ Some x
+get-right [] ys i x h = rw zero-add h
+get-right (y ∷ xs) ys i x h = rw suc-add (get-right xs ys i x h)
+
+no_more : {X : Type 0} (P : X → Type 0) (y : X) (xs : List X) → (P y → ⊥) → ((i : ℕ) (x : X) → slice_get xs i ≡ Some x → P x → ⊥) → (i : ℕ) (x : X) → slice_get (y ∷ xs) i ≡ Some x → P x → ⊥
+no_more P y xs not none zero x h p = let same : x ≡ y = sym (same_Some y x h) in not (rw same at p)
+no_more P y xs not none (suc i) x h p = none i x h p
+
+-- an element that P holds of, or none
+pub find_or_none : {X : Type 0} (P : X → Type 0) → ((x : X) → P x ⊎ (P x → ⊥)) → (xs : List X) → ((i : ℕ) × (x : X) × (slice_get xs i ≡ Some x) × P x) ⊎ ((i : ℕ) (x : X) → slice_get xs i ≡ Some x → P x → ⊥)
+find_or_none P decide [] = inr (λ i x h p. cc)
+find_or_none P decide (y ∷ xs) = elim (decide y) [
+  | inl p ↦ inl (0, y, refl, p)
+  | inr not ↦ elim (find_or_none P decide xs) [
+    | inl found ↦ inl (suc found.0, found.1, found.2, found.3)
+    | inr none ↦ inr (no_more P y xs not none)
+  ]
+]

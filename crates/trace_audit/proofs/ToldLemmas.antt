@@ -55,18 +55,6 @@ module _ (trace : List Moment) (calls : Calls) (told : IsTold trace calls) where
   pub not_returned : (c n : ℕ) → (IsCalled trace c n → ⊥) → HasReturned trace c n → ⊥
   not_returned c n not r = let first = told.tidy.called_first c n r.0 r.1 r.2 in not (first.0, first.1, first.2)
 
-  by_row : (c n : ℕ) (o : Option Row) → MatchOption o (IsCalled trace c n → ⊥) (IsRow trace c n) → HasReturned trace c n ⊎ (HasReturned trace c n → ⊥)
-  by_row c n None not = inr (not_returned c n not)
-  by_row c n (Some row) is = elim (match_cases row.returned _ _ is.replied) [ inl a ↦ inr a.1 | inr b ↦ inl (b.0.0, reply_of b.0.1.now, b.2) ]
-
-  -- a call returned, or it did not
-  pub decided : (c n : ℕ) → HasReturned trace c n ⊎ (HasReturned trace c n → ⊥)
-  decided c n = by_row c n (call_row calls.table c n) (told.rows c n)
-
-  -- where the client has no open call, each of its calls returned
-  all_returned : (client : ℕ) → ((n : ℕ) → IsOpen trace client n → ⊥) → (n : ℕ) → IsCalled trace client n → HasReturned trace client n
-  all_returned client none n h = elim (decided client n) [ inl a ↦ a | inr b ↦ absurd (none n (h, b)) ]
-
   -- the moments of one more
   more_moments : (calls' : Calls) (x : Moment) → calls'.moments ≡ calls.moments + 1 → calls'.moments ≡ length (trace ++ x ∷ [])
   more_moments calls' x e = let size : length (trace ++ x ∷ []) ≡ length trace + 1 = length-append trace (x ∷ []) in omega (arith, size, e, told.moments)
@@ -117,7 +105,7 @@ module _ (trace : List Moment) (calls : Calls) (told : IsTold trace calls) where
         | inr other ↦ match_same (call_row calls'.table c n) (call_row calls.table c n) _ _ (entered_other calls' client number row entered c n other.1)
             (match_map (call_row calls.table c n) _ _ _ _ (not_called c n other.0) (λ old. row-left trace (Call_now ∷ []) c n old (old_returned trace Call_now call_no_reply c n)) (told.rows c n))
       ];
-      tidy = tidy-called trace told.tidy client number call may (all_returned client may.0);
+      tidy = tidy-called trace told.tidy client number call may;
     }
 
   -- ---- a return

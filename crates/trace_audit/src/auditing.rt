@@ -1,6 +1,6 @@
 //! The verdict on the lines of an output.
 
-ghost use Rattle.std.specs.Prelude.{◌≡◌, ℕ, ◌+◌, ◌<◌, ◌^◌, length, List, IfOk, MatchOption};
+ghost use Rattle.std.specs.Prelude.{◌≡◌, ◌↔◌, ℕ, ◌+◌, ◌<◌, ◌^◌, length, List, IfOk, MatchOption};
 ghost use Rattle.map_model.specs.Linear.{IsLinear};
 ghost use Rattle.map_model.specs.declared.entries.Entry.{Entry};
 ghost use Rattle.trace_audit.specs.Fits.{Fits};
@@ -23,8 +23,15 @@ use std::alloc::{AllocError, Global};
 pub fn audit(alloc: Global, lines: &[OutLine]) -> Result<Verdict, AllocError>
     requires { length lines.now + 1 < 2 ^ 32 }
     ensures verdict { IfOk result (IsVerdict lines.now) }
-    ensures linear { IfOk result (λ verdict. verdict ≡ Verdict.Linear (length (history_of lines.now)) → Fits lines.now × IsLinear (trace_of lines.now) (history_of lines.now)) }
-    ensures complete { IfOk result (λ verdict. Fits lines.now → IsLinear (trace_of lines.now) (history_of lines.now) → verdict ≡ Verdict.Linear (length (history_of lines.now))) }
+    ensures linear { IfOk result (λ verdict. (count : ℕ) →
+        (verdict ≡ Verdict.Linear count) ↔ (Fits lines.now × IsLinear (trace_of lines.now) (history_of lines.now) × (count ≡ length (history_of lines.now)))) }
+{
+    verdict_on(alloc, lines)
+}
+
+fn verdict_on(alloc: Global, lines: &[OutLine]) -> Result<Verdict, AllocError>
+    requires { length lines.now + 1 < 2 ^ 32 }
+    ensures { IfOk result (IsVerdict lines.now) }
 {
     let calls = match read_calls(alloc, lines)? {
         Reading::Calls(calls) => calls,

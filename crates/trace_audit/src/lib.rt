@@ -5,6 +5,7 @@
 mod auditing;
 mod calls;
 mod judging;
+pub mod laws;
 mod listing;
 mod reading;
 mod replies;
