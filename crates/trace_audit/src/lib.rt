@@ -10,6 +10,8 @@ mod listing;
 mod reading;
 mod replies;
 mod tables;
+#[cfg(test)]
+mod tests;
 mod verdicts;
 
 pub use auditing::audit;
