@@ -1,16 +1,14 @@
 -- The faults of an entry, by the table, the names before it, the map before it and the returns after it.
-use Rattle.std.proofs.Common.{◌≡◌, ℕ, zero, suc, ◌+◌, ◌-◌, ◌<◌, ◌≤◌, ◌⊎◌, inl, inr, Bool, true, false, ◌||◌, ◌&&◌, ◌==◌, min, List, length, Option, Some, None, take, get_or, map, refl, sym, ◌∙◌, ap, ap₂, subst, set, arith}
-use Rattle.std.specs.Prelude.{slice_get, MatchBool, MatchOption}
+use Rattle.std.proofs.Common.{◌≡◌, ℕ, ◌+◌, ◌-◌, ◌<◌, ◌≤◌, ◌⊎◌, inl, inr, Bool, true, false, ◌||◌, ◌&&◌, ◌==◌, min, List, length, Option, Some, None, take, get_or, map, refl, sym, ◌∙◌, ap, subst, set, arith}
+use Rattle.std.specs.Prelude.{slice_get, MatchOption}
 use Rattle.std.specs.BTreeSet.{BTreeSet}
 use Rattle.std.specs.Option.{option_map}
 use Rattle.std.proofs.lemmas.Bool.{cases_lt, cases_eq}
 use Rattle.std.proofs.lemmas.Option.{slice_get_read, slice_get_within, slice_get-map, same_Some, get_or_from_slice_get}
-use Rattle.map_model.specs.declared.calls.Call.{Call}
-use Rattle.map_model.specs.declared.calls.Reply.{Reply}
 use Rattle.map_model.specs.declared.entries.Entry.{Entry}
 use Rattle.map_model.specs.Linear.{ReturnsBefore}
 use Rattle.map_model.specs.Map.{after, empty_map, map_after, may_reply}
-use Rattle.map_model.specs.Trace.{Moment, Invoked, Returned}
+use Rattle.map_model.specs.Trace.{Moment}
 use Rattle.map_model.proofs.MapLemmas.{map_after-take}
 use Rattle.trace_audit.specs.declared.tables.Row.{Row}
 use Rattle.trace_audit.specs.declared.verdicts.Fault.{Fault}

@@ -1,6 +1,7 @@
 pub mod JudgeLemmas
 pub mod LinearLemmas
 pub mod NameLemmas
+pub mod OutputLemmas
 pub mod PlaceLemmas
 pub mod ReadingLemmas
 pub mod TidyLemmas

@@ -1,5 +1,5 @@
 -- A list without fault and without a missing call is a linearization, and a linearization has neither.
-use Rattle.std.proofs.Common.{◌≡◌, ℕ, zero, suc, ◌+◌, ◌<◌, ◌≤◌, ◌⊎◌, inl, inr, Bool, true, false, IsTrue, List, [], ◌∷◌, ◌++◌, length, Some, take, get_or, bytes_eq, refl, sym, ◌∙◌, ap, ap₂, subst, arith}
+use Rattle.std.proofs.Common.{◌≡◌, ℕ, zero, suc, ◌+◌, ◌<◌, ◌⊎◌, inl, inr, Bool, true, false, IsTrue, List, [], ◌∷◌, length, Some, take, bytes_eq, refl, sym, ◌∙◌, ap, ap₂, subst, arith}
 use Rattle.std.specs.Prelude.{slice_get, Contains}
 use Rattle.std.specs.Cmp.{first_so, second_so}
 use Rattle.std.proofs.lemmas.Bool.{cases_lt, cases_eq}
@@ -12,18 +12,17 @@ use Rattle.map_model.specs.declared.calls.Reply.TheVariants.{Done, Value, Absent
 use Rattle.map_model.specs.declared.entries.Entry.{Entry}
 use Rattle.map_model.specs.Linear.{IsLinear, IsPlacing, KeepsOrder, ReturnsBefore}
 use Rattle.map_model.specs.Map.{Map, after, empty_map, is_legal_from, map_after, may_reply}
-use Rattle.map_model.specs.Trace.{Moment, Invoked, Returned, Stopped}
+use Rattle.map_model.specs.Trace.{Moment, Returned}
 use Rattle.map_model.proofs.LinearLemmas.{contained, get-append}
 use Rattle.script_text.specs.declared.out_lines.OutLine.{OutLine}
 use Rattle.script_text.specs.declared.out_lines.OutLine.TheVariants as line
 use Rattle.script_text.specs.declared.out_lines.ReplyText.{ReplyText}
-use Rattle.trace_audit.specs.declared.verdicts.Fault.{Fault}
 use Rattle.trace_audit.specs.declared.verdicts.Fault.TheVariants as fault
-use Rattle.trace_audit.specs.Faults.{Agrees, AreFaultless, HasFault, IsListed, IsListedBefore}
-use Rattle.trace_audit.specs.Fits.{IsCalled, HasReturned, Fits}
+use Rattle.trace_audit.specs.Faults.{Agrees, IsListed}
+use Rattle.trace_audit.specs.Fits.{HasReturned, Fits}
 use Rattle.trace_audit.specs.Told.{moments_of, reply_of, trace_of, history_of}
 use Rattle.trace_audit.specs.Traced.{IsTidy}
-use Rattle.trace_audit.specs.Verdicts.{EndsUnlisted, IsWhole, IsSound}
+use Rattle.trace_audit.specs.Verdicts.{IsWhole, IsSound}
 use Rattle.trace_audit.proofs.PlaceLemmas.{get-right, find_or_none}
 use Rattle.trace_audit.proofs.TidyLemmas.{called_or_not, returned_or_not, tidy-fits}
 

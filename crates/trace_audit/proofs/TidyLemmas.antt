@@ -7,7 +7,7 @@ use Rattle.map_model.specs.declared.calls.Call.{Call}
 use Rattle.map_model.specs.declared.calls.Reply.{Reply}
 use Rattle.map_model.specs.Trace.{Moment, Invoked, Returned, Stopped}
 use Rattle.map_model.proofs.LinearLemmas.{get-push}
-use Rattle.trace_audit.specs.Fits.{IsCalled, HasReturned, IsStopped, IsNext, IsOpen, MayCall, MayReturn}
+use Rattle.trace_audit.specs.Fits.{IsCalled, HasReturned, IsStopped, IsOpen, MayCall, MayReturn}
 use Rattle.trace_audit.specs.Traced.{IsTidy}
 use Rattle.trace_audit.proofs.PlaceLemmas.{get-left, get-last, find_or_none}
 use Rattle.std.proofs.lemmas.List.{append-nil, take_all}

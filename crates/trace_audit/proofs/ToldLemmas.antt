@@ -1,5 +1,5 @@
 -- The table of a trace goes on with one more moment that fits.
-use Rattle.std.proofs.Common.{◌≡◌, ℕ, zero, suc, ◌+◌, ◌-◌, ◌<◌, ◌≤◌, ◌⊎◌, inl, inr, Bool, true, false, cond, ◌&&◌, ◌==◌, if◌then◌else◌, List, [], ◌∷◌, ◌++◌, length, Option, Some, None, refl, sym, ◌∙◌, ap, subst, arith, length-append, is_some}
+use Rattle.std.proofs.Common.{◌≡◌, ℕ, ◌+◌, ◌-◌, ◌<◌, ◌≤◌, ◌⊎◌, inl, inr, Bool, true, false, ◌&&◌, ◌==◌, if◌then◌else◌, List, [], ◌∷◌, ◌++◌, length, Option, Some, None, refl, sym, ◌∙◌, ap, arith, length-append}
 use Rattle.std.specs.Prelude.{slice_get, MatchOption, MatchBool}
 use Rattle.std.specs.BTreeSet as set
 use Rattle.std.specs.Ordering.{nat_cmp}
@@ -11,13 +11,13 @@ use Rattle.map_model.specs.Trace.{Moment, Invoked, Returned, Stopped}
 use Rattle.map_model.proofs.LinearLemmas.{get-push}
 use Rattle.trace_audit.specs.declared.calls.Calls.{Calls}
 use Rattle.trace_audit.specs.declared.tables.Row.{Row}
-use Rattle.trace_audit.specs.Fits.{IsCalled, HasReturned, IsStopped, IsOpen, IsNext, IsLatest, MayCall, MayReturn}
+use Rattle.trace_audit.specs.Fits.{IsCalled, HasReturned, IsStopped, IsOpen, MayCall, MayReturn}
 use Rattle.trace_audit.specs.Tables.{call_row}
 use Rattle.trace_audit.specs.Told.{call_of, reply_of}
-use Rattle.trace_audit.specs.Traced.{IsTidy, IsRow, IsTold}
+use Rattle.trace_audit.specs.Traced.{IsRow, IsTold}
 use Rattle.trace_audit.proofs.NameLemmas.{same_or_other}
 use Rattle.trace_audit.proofs.PlaceLemmas.{get-left, get-last}
-use Rattle.trace_audit.proofs.TidyLemmas.{called-left, returned-left, old_called, old_returned, old_stopped, numbers_below, tidy-called, tidy-returned, tidy-stopped}
+use Rattle.trace_audit.proofs.TidyLemmas.{old_called, old_returned, old_stopped, numbers_below, tidy-called, tidy-returned, tidy-stopped}
 
 -- ---- what is said of an option or a test
 

@@ -1,5 +1,5 @@
 -- Each output has one verdict.
-use Rattle.std.proofs.Common.{◌≡◌, ℕ, ◌+◌, ◌<◌, ◌⊎◌, inl, inr, List, length, Some, refl, sym, ◌∙◌, ap, arith}
+use Rattle.std.proofs.Common.{◌≡◌, ℕ, ◌+◌, ◌<◌, inl, inr, List, length, refl, sym, ◌∙◌, ap, arith}
 use Rattle.std.specs.Prelude.{slice_get, ◌↔◌, Result, Ok, Err, IfOk}
 use Rattle.std.proofs.lemmas.Bool.{cases_lt}
 use Rattle.std.proofs.lemmas.Option.{slice_get_within, same_Some}
@@ -12,10 +12,10 @@ use Rattle.trace_audit.specs.declared.verdicts.Fault.{Fault}
 use Rattle.trace_audit.specs.declared.verdicts.Fault.TheVariants as fault
 use Rattle.trace_audit.specs.declared.verdicts.Verdict.{Verdict}
 use Rattle.trace_audit.specs.declared.verdicts.Verdict.TheVariants as verdict
-use Rattle.trace_audit.specs.Faults.{AreFaultless, HasFault, IsFirstFault, rank}
-use Rattle.trace_audit.specs.Fits.{Fits, FitsAt, IsFirstUnfit}
+use Rattle.trace_audit.specs.Faults.{AreFaultless, IsFirstFault, rank}
+use Rattle.trace_audit.specs.Fits.{Fits, IsFirstUnfit}
 use Rattle.trace_audit.specs.Told.{history_of, trace_of}
-use Rattle.trace_audit.specs.Verdicts.{EndsUnlisted, IsFirstAtFault, IsFirstMissing, IsSound, IsVerdict, IsWhole}
+use Rattle.trace_audit.specs.Verdicts.{IsFirstAtFault, IsFirstMissing, IsVerdict, IsWhole}
 use Rattle.trace_audit.proofs.LinearLemmas.{linear, sound_from, whole_from}
 
 -- the least of two numbers with a property that no smaller has are the same

@@ -5,7 +5,7 @@ use Rattle.map_model.specs.declared.calls.Reply.{Reply}
 use Rattle.map_model.specs.Trace.{Moment, Invoked, Returned, Stopped}
 use Rattle.script_text.specs.declared.out_lines.OutLine.{OutLine}
 use Rattle.script_text.specs.declared.out_lines.OutLine.TheVariants as line
-use Rattle.trace_audit.specs.Told.{moments_of, trace_of}
+use Rattle.trace_audit.specs.Told.{trace_of}
 
 -- the client made its call of this number
 abbrev pub IsCalled : List Moment → ℕ → ℕ → Type 0

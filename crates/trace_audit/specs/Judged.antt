@@ -10,7 +10,7 @@ use Rattle.map_model.specs.Trace.{Moment, Returned}
 use Rattle.trace_audit.specs.declared.calls.Calls.{Calls}
 use Rattle.trace_audit.specs.declared.judging.Judged.{Judged}
 use Rattle.trace_audit.specs.declared.judging.Judged.TheVariants as judged
-use Rattle.trace_audit.specs.Faults.{AreFaultless, IsListedBefore, IsListed}
+use Rattle.trace_audit.specs.Faults.{AreFaultless, IsListedBefore}
 use Rattle.trace_audit.specs.Tables.{is_listed}
 use Rattle.trace_audit.specs.Traced.{IsTold}
 use Rattle.trace_audit.specs.Verdicts.{IsFirstAtFault}

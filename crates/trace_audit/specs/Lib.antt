@@ -2,6 +2,7 @@ pub mod Faults
 pub mod Fits
 pub mod Judged
 pub mod Listing
+pub mod Outputs
 pub mod Reading
 pub mod Tables
 pub mod Told

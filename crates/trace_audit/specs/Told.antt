@@ -1,5 +1,5 @@
 -- What the lines of an output tell: the trace of the calls, and the list of the last history.
-use Rattle.std.specs.Prelude.{ℕ, not, List, [], ◌∷◌, ◌++◌, flat_map}
+use Rattle.std.specs.Prelude.{not, List, [], ◌∷◌, ◌++◌, flat_map}
 use Rattle.map_model.specs.declared.calls.Call.{Call}
 use Rattle.map_model.specs.declared.calls.Call.TheVariants as asks
 use Rattle.map_model.specs.declared.calls.Reply.{Reply}

@@ -1,5 +1,5 @@
 -- A table of calls that says what a trace says, and what holds of every trace that fits.
-use Rattle.std.specs.Prelude.{◌≡◌, ℕ, ◌+◌, ◌<◌, ◌≤◌, List, Some, slice_get, length, MatchOption, MatchBool}
+use Rattle.std.specs.Prelude.{◌≡◌, ℕ, ◌<◌, ◌≤◌, List, Some, slice_get, length, MatchOption, MatchBool}
 use Rattle.std.specs.BTreeSet as set
 use Rattle.std.specs.Ordering.{nat_cmp}
 use Rattle.map_model.specs.declared.calls.Call.{Call}

@@ -4,6 +4,7 @@ ghost use Rattle.std.specs.Prelude.{◌≡◌, ◌↔◌, ℕ, List, length};
 ghost use Rattle.map_model.specs.Linear.{IsLinear};
 ghost use Rattle.script_text.specs.declared.out_lines.OutLine.{OutLine};
 ghost use Rattle.trace_audit.specs.Fits.{Fits};
+ghost use Rattle.trace_audit.specs.Outputs.{EndsWithList, IsOutput};
 ghost use Rattle.trace_audit.specs.Told.{history_of, trace_of};
 ghost use Rattle.trace_audit.specs.Verdicts.{IsVerdict};
 ghost use Rattle.trace_audit.specs.declared.verdicts.Verdict.{Verdict};
@@ -19,4 +20,10 @@ pub fn linear_exactly_at_linearizations()
 /// No lines have two verdicts.
 pub fn lines_have_one_verdict()
     ensures { (lines : List OutLine) (one other : Verdict) → IsVerdict lines one → IsVerdict lines other → one ≡ other }
+{}
+
+/// In an output, the list of the last history is the entries between the last `history` line, which
+/// tells how many they are, and `end`.
+pub fn outputs_end_with_their_list()
+    ensures { (lines : List OutLine) → IsOutput lines → EndsWithList lines (history_of lines) }
 {}

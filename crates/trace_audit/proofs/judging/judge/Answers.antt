@@ -1,4 +1,4 @@
-use Rattle.std.proofs.Common.{◌≡◌, map, refl, ◌∙◌, sym, ap, arith}
+use Rattle.std.proofs.Common.{map, refl, ◌∙◌, sym, ap, arith}
 use Rattle.std.proofs.lemmas.Option.{slice_get_read}
 use Rattle.map_model.specs.Map.{after}
 use Rattle.trace_audit.specs.Listing.{entry_of}

@@ -1,4 +1,4 @@
-use Rattle.std.proofs.Common.{◌≡◌, ◌<◌, arith, map}
+use Rattle.std.proofs.Common.{arith, map}
 use Rattle.trace_audit.specs.Listing.{entry_of}
 use Rattle.trace_audit.proofs.JudgeLemmas.{earliest_before, told_before, mapped_at}
 use Rattle.trace_audit.proofs.judging.returns_after.Goals as goal

@@ -1,5 +1,4 @@
-use Rattle.std.proofs.Common.{arith, sym}
-use Rattle.trace_audit.specs.Fits.{MayCall}
+use Rattle.std.proofs.Common.{arith}
 use Rattle.trace_audit.proofs.ToldLemmas.{bool_map, no_call_again, no_call_zero, no_call_gap, may_call_first, may_call_next}
 use Rattle.trace_audit.proofs.calls.Calls.may_call.Goals as goal
 
