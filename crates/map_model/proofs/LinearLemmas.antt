@@ -19,7 +19,7 @@ use Rattle.map_model.proofs.MapLemmas.{is_legal_from-push, map_after-append}
 -- ---- places in a list that goes on
 
 -- an element of xs and then ys is one of xs, or stands in ys
-get-append : {X : Type 0} (xs ys : List X) (i : ℕ) (x : X) → slice_get (xs ++ ys) i ≡ Some x → (slice_get xs i ≡ Some x) ⊎ ((k : ℕ) × (i ≡ length xs + k) × (slice_get ys k ≡ Some x))
+pub get-append : {X : Type 0} (xs ys : List X) (i : ℕ) (x : X) → slice_get (xs ++ ys) i ≡ Some x → (slice_get xs i ≡ Some x) ⊎ ((k : ℕ) × (i ≡ length xs + k) × (slice_get ys k ≡ Some x))
 get-append [] ys i x h = inr (i, omega arith, h)
 get-append (y ∷ xs) ys zero x h = inl h
 get-append (y ∷ xs) ys (suc i) x h = elim (get-append xs ys i x h) [ inl a ↦ inl a | inr b ↦ inr (b.0, omega arith, b.2) ]
@@ -29,10 +29,10 @@ at_end y x n i zero e h = (omega arith, cc)
 at_end y x n i (suc k) e h = cc
 
 -- an element of xs and then y is one of xs, or it is y
-get-push : {X : Type 0} (xs : List X) (y : X) (i : ℕ) (x : X) → slice_get (xs ++ y ∷ []) i ≡ Some x → (slice_get xs i ≡ Some x) ⊎ ((i ≡ length xs) × (y ≡ x))
+pub get-push : {X : Type 0} (xs : List X) (y : X) (i : ℕ) (x : X) → slice_get (xs ++ y ∷ []) i ≡ Some x → (slice_get xs i ≡ Some x) ⊎ ((i ≡ length xs) × (y ≡ x))
 get-push xs y i x h = elim (get-append xs (y ∷ []) i x h) [ inl a ↦ inl a | inr b ↦ inr (at_end y x (length xs) i b.0 b.1 b.2) ]
 
-contained : {X : Type 0} (xs : List X) (i : ℕ) (x : X) → slice_get xs i ≡ Some x → Contains xs x
+pub contained : {X : Type 0} (xs : List X) (i : ℕ) (x : X) → slice_get xs i ≡ Some x → Contains xs x
 contained xs i x h = (i, slice_get_within xs i x h, get_or_from_slice_get xs i x x h)
 
 -- ---- the moments of one call

@@ -5,6 +5,7 @@
 mod byte_list;
 mod calls;
 mod entries;
+mod held_map;
 pub mod laws;
 mod legality;
 #[cfg(test)]
@@ -13,4 +14,5 @@ mod tests;
 pub use byte_list::Bytes;
 pub use calls::{Call, Reply};
 pub use entries::Entry;
+pub use held_map::HeldMap;
 pub use legality::legal;

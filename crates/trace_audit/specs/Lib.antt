@@ -1,0 +1,10 @@
+pub mod Faults
+pub mod Fits
+pub mod Judged
+pub mod Listing
+pub mod Outputs
+pub mod Reading
+pub mod Tables
+pub mod Told
+pub mod Traced
+pub mod Verdicts
