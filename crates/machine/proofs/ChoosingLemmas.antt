@@ -365,11 +365,11 @@ begin-inside : (view : Viewed) (client : ℕ) → IsView view → (1 ≤ client)
 begin-inside view client is within = control-inside view.shape (Begin client) (within.0, omega (arith, within.1, is.limits.clients))
 
 -- the view under which it chooses
-held_view : (view : Viewed) (client class : ℕ) (stock : Stock) → IsReady view client class stock → view_of stock ≡ view
+pub held_view : (view : Viewed) (client class : ℕ) (stock : Stock) → IsReady view client class stock → view_of stock ≡ view
 held_view view client class stock is = let shape = is.is_stock.shape in let mask = is.held in λ i. record { shape = shape i; mask = mask i }
 
 -- the block at the position is a block of the pool
-here_block : (view : Viewed) (client class : ℕ) (stock : Stock) → IsReady view client class stock → stock.position < stock.shape.regions * stock.shape.blocks
+pub here_block : (view : Viewed) (client class : ℕ) (stock : Stock) → IsReady view client class stock → stock.position < stock.shape.regions * stock.shape.blocks
     → (1 ≤ region_at stock) × (region_at stock ≤ view.shape.regions) × (block_at stock < view.shape.blocks)
 here_block view client class stock is within =
     let P : Sizes → Type 0 = λ s. 1 ≤ s.blocks in

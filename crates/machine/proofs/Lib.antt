@@ -19,6 +19,7 @@ pub mod RecoveryKept
 pub mod ResolutionLemmas
 pub mod SettlingKept
 pub mod SlotWriteLemmas
+pub mod SparedLemmas
 pub mod StockLemmas
 pub mod ValueReadLemmas
 pub mod ViewLemmas

@@ -101,11 +101,11 @@ replica_count-some view word is within = let some = replicas_of-some view (regio
 pub replica_count-same : (view : Viewed) (one other : NodeWord) → region_of_word one ≡ region_of_word other → replica_count view one ≡ replica_count view other
 replica_count-same view one other same = replica_count-is view one ∙ ap (λ r. length (replicas_of view r)) same ∙ sym (replica_count-is view other)
 
-length-primary_last : (homes : List Home) → length (primary_last homes) ≡ length homes
+pub length-primary_last : (homes : List Home) → length (primary_last homes) ≡ length homes
 length-primary_last [] = refl
 length-primary_last (home ∷ homes) = omega (arith, length-append homes (home ∷ []))
 
-primary_last-are : (sizes : Sizes) (homes : List Home) → All (IsHome sizes) homes → All (IsHome sizes) (primary_last homes)
+pub primary_last-are : (sizes : Sizes) (homes : List Home) → All (IsHome sizes) homes → All (IsHome sizes) (primary_last homes)
 primary_last-are sizes [] are = are
 primary_last-are sizes (home ∷ homes) are =
     All-append (IsHome sizes) homes (home ∷ [])

@@ -1,6 +1,8 @@
 -- Where the words that the actors work on stand: on the control node, or on the replicas of their region.
 use Rattle.std.specs.Prelude.{◌≡◌, ℕ, ◌+◌, ◌-◌, ◌/◌, ◌%◌, ◌<◌, ◌≤◌, ◌⊎◌, List, [], ◌∷◌, ◌++◌, length, map, slice_index_or}
 use Rattle.verb_words.specs.declared.verbs.Place.{Place}
+use Rattle.verb_words.specs.declared.verbs.Verb.{Verb}
+use Rattle.verb_words.specs.declared.verbs.Verb.TheVariants.{Add, Read, Swap, Write}
 use Rattle.pointer_fields.specs.Pointer.{region_of, unit_of}
 use Rattle.region_view.specs.Control.{ControlWord, control_position}
 use Rattle.region_view.specs.Layout.{NodeWord, Slot, Shadow, UnitWord, position_of, region_of_word}
@@ -72,3 +74,14 @@ abbrev pub IsInPool : Sizes → Place → Type 0
 IsInPool sizes place =
     ((place.node ≡ 0) × (place.at < 1040))
     ⊎ ((1 ≤ place.node) × (place.node ≤ sizes.nodes) × (place.at < node_words sizes))
+
+-- outside the words of the control node that the master alone writes: the epoch word and the status words
+abbrev pub IsSpared : Place → Type 0
+IsSpared place = (1 ≤ place.node) ⊎ (16 ≤ place.at)
+
+-- a verb that leaves the words of the master as they are
+abbrev pub SparesMaster : Verb → Type 0
+SparesMaster (Read place) = Unit {0}
+SparesMaster (Write place word) = IsSpared place
+SparesMaster (Swap place expect fresh) = IsSpared place
+SparesMaster (Add place more) = IsSpared place

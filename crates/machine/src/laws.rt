@@ -3,7 +3,7 @@
 ghost use Rattle.std.specs.Prelude.{◌≡◌, ◌≤◌, ℕ, List, length};
 ghost use Rattle.machine.specs.Client.{after, invoked, next};
 ghost use Rattle.machine.specs.Examples.{first_answers, first_put, first_verbs, verbs_of};
-ghost use Rattle.machine.specs.Places.{IsInPool};
+ghost use Rattle.machine.specs.Places.{IsInPool, SparesMaster};
 ghost use Rattle.machine.specs.Stage.{Client, Operation, first_client};
 ghost use Rattle.machine.specs.Standing.{IsClient};
 ghost use Rattle.object_form.specs.Class.{IsKeyLength};
@@ -29,6 +29,12 @@ pub fn clients_stand_well()
 pub fn verbs_go_to_places_of_the_pool()
     ensures { (sizes : Sizes) (number : ℕ) (client : Client)
         → IsClient sizes number client → IsInPool sizes (place_of (next client)) }
+{}
+
+/// A verb of a client that stands well leaves the epoch word and the status words as they are.
+pub fn clients_spare_the_masters_words()
+    ensures { (sizes : Sizes) (number : ℕ) (client : Client)
+        → IsClient sizes number client → SparesMaster (next client) }
 {}
 
 /// The first put of a small pool takes 18 verbs, and these are they.

@@ -1,8 +1,11 @@
 //! What holds of the definitions: each function does nothing, and its clause is the law.
 
-ghost use Rattle.std.specs.Prelude.{◌≡◌, ◌≢◌, ◌+◌, ◌<◌, ◌≤◌, ℕ, Bool, List, [], ◌∷◌, ◌++◌, length, map, None, Some};
+ghost use Rattle.std.specs.Prelude.{◌≡◌, ◌≢◌, ◌+◌, ◌<◌, ◌≤◌, ◌==◌, ℕ, Bool, true, if◌then◌else◌, List, [], ◌∷◌, ◌++◌, length, map, None, Some};
 ghost use Rattle.machine.specs.Client.{after, told};
-ghost use Rattle.machine_world.specs.Events.{answer_of, chooses, fills, happens, invokes, loses, moments_of, acts, registers, stops, verb_event, verb_of, verb_of_task, works};
+ghost use Rattle.machine_world.specs.Events.{answer_of, answered, chooses, fills, happens, invokes, loses, moments_of, acts, registers, stops, verb_event, verb_of, verb_of_task, works};
+ghost use Rattle.machine_world.specs.Examples.{first_put, first_put_division, first_put_history, first_put_trace, one_of_each};
+ghost use Rattle.machine_world.specs.Ledger.{history_of};
+ghost use Rattle.machine_world.specs.Readings.{division_of};
 ghost use Rattle.machine_world.specs.Refusals.{refusal};
 ghost use Rattle.machine_world.specs.Runs.{run, verbs_at, verbs_taken};
 ghost use Rattle.machine_world.specs.Standing.{StandsWell};
@@ -13,8 +16,10 @@ ghost use Rattle.machine_world.specs.declared.events.Task.{Task};
 ghost use Rattle.machine_world.specs.declared.outcomes.Refused.{Refused};
 ghost use Rattle.map_model.specs.declared.calls.Call.{Call};
 ghost use Rattle.region_view.specs.Sizes.{IsWithinLimits, Sizes};
+ghost use Rattle.verb_words.specs.Verb as verbs;
 ghost use Rattle.verb_words.specs.Verb.{place_of};
-ghost use Rattle.verb_words.specs.Words.{HasPlace, word_at};
+ghost use Rattle.verb_words.specs.Words.{HasPlace, is_lost, with_word, word_at};
+ghost use Rattle.verb_words.specs.declared.verbs.Answer.TheVariants as answer;
 ghost use Rattle.verb_words.specs.declared.verbs.Place.{Place};
 ghost use Rattle.verb_words.specs.declared.verbs.Verb.{Verb};
 
@@ -65,6 +70,35 @@ pub fn a_clients_verb_stands_apart()
         → (acts late world client).stopped ≡ world.stopped }
 {}
 
+/// A client's verb that a live node takes, or that a lost node's words take late, is answered by the
+/// word that it finds; one that a lost node refuses changes no word; each of them is one verb of that
+/// client.
+pub fn verbs_are_answered_by_their_words()
+    ensures answered { (world : World) (client : ℕ) → refusal world (event.Step client) ≡ None
+        → happens world (verb_event (is_lost world.nodes (place_of (verb_of world client)).node) client)
+        ≡ answered world client
+        (verbs.answer_of (verb_of world client) (word_at world.nodes (place_of (verb_of world client))))
+        (with_word world.nodes (place_of (verb_of world client))
+        (verbs.word_after (verb_of world client) (word_at world.nodes (place_of (verb_of world client))))) }
+    ensures refused { (world : World) (client : ℕ) → refusal world (event.Step client) ≡ None
+        → is_lost world.nodes (place_of (verb_of world client)).node ≡ true
+        → happens world (event.Step client) ≡ answered world client answer.Lost world.nodes }
+    ensures counted { (late : Bool) (world : World) (client other : ℕ)
+        → refusal world (verb_event late client) ≡ None
+        → verbs_at world other (verb_event late client) ≡ (if client == other then 1 else 0) }
+{}
+
+/// A client's verb leaves the epoch word and the status words as they are, so no node is lost by it.
+pub fn clients_leave_the_masters_words()
+    ensures words { (late : Bool) (world : World) (client at : ℕ) → StandsWell world
+        → 1 ≤ client → client < length world.clients → at < 16
+        → word_at (acts late world client).nodes (record { node = 0; at = at })
+        ≡ word_at world.nodes (record { node = 0; at = at }) }
+    ensures lost { (late : Bool) (world : World) (client node : ℕ) → StandsWell world
+        → 1 ≤ client → client < length world.clients → node < 16
+        → is_lost (acts late world client).nodes node ≡ is_lost world.nodes node }
+{}
+
 /// A verb of the master changes no client, not the trace, and not who is stopped.
 pub fn the_masters_verb_stands_apart()
     ensures clients { (world : World) → (works world).clients ≡ world.clients }
@@ -103,4 +137,12 @@ pub fn verbs_find_their_words()
     ensures master { (world : World) (verb : Verb) → StandsWell world
         → verb_of_task world.master.task ≡ Some verb
         → HasPlace world.nodes (place_of verb) }
+{}
+
+/// The first put of the only client of a small pool: its run returns, its history is this one call, and
+/// one block is owned, of whose 64 objects one is present.
+pub fn the_first_put_as_a_run()
+    ensures trace { (run one_of_each first_put).trace ≡ first_put_trace }
+    ensures history { history_of (run one_of_each first_put) ≡ first_put_history }
+    ensures division { division_of (run one_of_each first_put) ≡ first_put_division }
 {}

@@ -3,7 +3,8 @@ use Rattle.std.proofs.Common.{◌≡◌, ℕ, zero, suc, ◌⊎◌, inl, inr, Bo
 use Rattle.map_model.specs.declared.entries.Entry.{Entry}
 use Rattle.script_text.specs.declared.out_lines.OutLine.{OutLine}
 use Rattle.script_text.specs.declared.out_lines.OutLine.TheVariants as line
-use Rattle.trace_audit.specs.Outputs.{IsOutput, IsOutputFrom, AreEntries, EndsWithList}
+use Rattle.script_text.specs.OutputShape.{IsOutput, IsOutputFrom}
+use Rattle.trace_audit.specs.Outputs.{AreEntries, EndsWithList}
 use Rattle.trace_audit.specs.Told.{history_of, list_after, list_from}
 
 -- no history begins any more: the entries that are due, and `end`

@@ -2,9 +2,10 @@
 
 ghost use Rattle.std.specs.Prelude.{◌≡◌, ◌↔◌, ℕ, List, length};
 ghost use Rattle.map_model.specs.Linear.{IsLinear};
+ghost use Rattle.script_text.specs.OutputShape.{IsOutput};
 ghost use Rattle.script_text.specs.declared.out_lines.OutLine.{OutLine};
 ghost use Rattle.trace_audit.specs.Fits.{Fits};
-ghost use Rattle.trace_audit.specs.Outputs.{EndsWithList, IsOutput};
+ghost use Rattle.trace_audit.specs.Outputs.{EndsWithList};
 ghost use Rattle.trace_audit.specs.Told.{history_of, trace_of};
 ghost use Rattle.trace_audit.specs.Verdicts.{IsVerdict};
 ghost use Rattle.trace_audit.specs.declared.verdicts.Verdict.{Verdict};
