@@ -1,4 +1,4 @@
-use Rattle.std.proofs.Common.{◌≡◌, ℕ, ◌+◌, ◌≤◌, length}
+use Rattle.std.proofs.Common.{◌≡◌, ◌+◌, ◌≤◌, length}
 use Rattle.text_lines.specs.Lines.{lines_of}
 use Rattle.script_text.specs.OutputRead.{output_of, read_from, led_by_all}
 use Rattle.script_text.proofs.outputs.parse_output.Given as goal
