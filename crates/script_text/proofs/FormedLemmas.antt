@@ -1,8 +1,8 @@
 -- Words that stand for the parts of a line are read as this line.
-use Rattle.std.proofs.Common.{◌≡◌, ℕ, Bool, true, false, List, [], ◌∷◌, ◌++◌, codes, Option, Some, None, Result, Ok, refl, sym, ap, ◌∙◌}
+use Rattle.std.proofs.Common.{◌≡◌, ℕ, Bool, true, false, List, [], ◌∷◌, ◌++◌, codes, Option, Some, None, Ok, refl, sym, ap, ◌∙◌}
 use Rattle.text_lines.specs.Number.{number_of}
-use Rattle.script_text.specs.OutputForm.{call_form, entry_form, line_of_words, not_yet_form, of_form, open_form, reply_form}
-use Rattle.script_text.specs.OutputPart.{OutPart, StandFor, StandsFor, actor, answer, bytes, call_parts, fixed, line_parts, mark_parts, not_yet_parts, number, refusal_parts, reply_parts, word}
+use Rattle.script_text.specs.OutputForm.{call_form, entry_form, line_of_words, of_form, open_form, reply_form}
+use Rattle.script_text.specs.OutputPart.{OutPart, StandFor, StandsFor, call_parts, fixed, line_parts, mark_parts, reply_parts}
 use Rattle.script_text.specs.OutputPlace.{Reading, behind_all, past_all}
 use Rattle.script_text.proofs.ReadingLemmas.{past_all-append, past_all-words}
 use Rattle.script_text.specs.declared.out_lines.NotYetText.{NotYetText}

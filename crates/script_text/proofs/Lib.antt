@@ -1,4 +1,5 @@
 pub mod FirstFaultLemmas
+pub mod FirstKindLemmas
 pub mod FormedLemmas
 pub mod LineFormLemmas
 pub mod LineMeaningLemmas

@@ -1,26 +1,23 @@
 -- What is read stands in the words: a line that is read means what it is read as.
-use Rattle.std.proofs.Common.{◌≡◌, ℕ, rules, Bool, true, false, List, [], ◌∷◌, ◌++◌, codes, Option, Some, None, Result, Ok, Err, refl, sym, ap, subst, ◌∙◌}
+use Rattle.std.proofs.Common.{◌≡◌, ℕ, rules, Bool, true, false, List, [], ◌∷◌, ◌++◌, codes, Option, Some, None, Ok, refl, sym, ap, subst, ◌∙◌}
 use Rattle.std.specs.Prelude.{if◌then◌else◌, bytes_eq}
 use Rattle.std.proofs.lemmas.List.{append-nil}
 use Rattle.std.proofs.lemmas.Slice.Eq.{bytes_eq-Decides}
 use Rattle.text_lines.specs.Number.{number_of}
-use Rattle.script_text.specs.OutputForm.{Form, Numbered, add_form, behind_word, call_form, form, named_call, read_form, swap_form, write_form, named_not_yet, named_reply, named_task, named_verb, ended, fault_or, left_fault, line_form, line_name, line_names, line_of_words, lost_form, name_among, name_text, named_line, not_yet_form, number_refusal, numbered_among, numbered_refusals, of_form, open_form, refusal_of, reply_form, sealed_refusal, task_form, verb_form}
-use Rattle.script_text.specs.OutputMeaning.{BeginsWith, IsNamed, WordsMean}
+use Rattle.script_text.specs.OutputForm.{Form, Numbered, add_form, behind_word, call_form, form, named_call, read_form, swap_form, write_form, named_not_yet, named_reply, named_task, named_verb, fault_or, left_fault, line_form, line_name, line_names, line_of_words, lost_form, name_among, name_text, named_line, not_yet_form, number_refusal, numbered_among, numbered_refusals, open_form, refusal_of, reply_form, sealed_refusal, task_form, verb_form}
+use Rattle.script_text.specs.OutputMeaning.{IsNamed, WordsMean}
 use Rattle.script_text.specs.OutputPart.{OutPart, StandFor, StandsFor, actor, answer, bytes, call_parts, fixed, line_parts, mark_parts, not_yet_parts, number, refusal_parts, reply_parts, word}
 use Rattle.script_text.specs.OutputPlace.{ActorDue, AnswerDue, AnyWords, BytesDue, Exactly, NumberDue, Place, Reading, Unknown, WordDue, actor_in, actor_of, answer_in, behind, behind_all, bytes_in, first_fault, number_in, past, past_all, place_fault, rest, unless_some, value_or, word_fault, word_in}
 use Rattle.script_text.specs.WordValue.{word_of}
 use Rattle.script_text.proofs.FormedLemmas.{line_formed}
 use Rattle.script_text.specs.declared.faults.BadKind.{BadKind}
 use Rattle.script_text.specs.declared.faults.BadKind.TheVariants as kind
-use Rattle.script_text.specs.declared.out_lines.NotYetText.{NotYetText}
 use Rattle.script_text.specs.declared.out_lines.NotYetText.TheVariants as notyet
 use Rattle.script_text.specs.declared.out_lines.OutLine.{OutLine}
 use Rattle.script_text.specs.declared.out_lines.OutLine.TheVariants as line
 use Rattle.script_text.specs.declared.out_lines.RefusalText.{RefusalText}
 use Rattle.script_text.specs.declared.out_lines.RefusalText.TheVariants as refusal
-use Rattle.script_text.specs.declared.out_lines.ReplyText.{ReplyText}
 use Rattle.script_text.specs.declared.out_lines.ReplyText.TheVariants.{Done, Value, Absent, Full, NoSpace}
-use Rattle.script_text.specs.declared.scripts.CallText.{CallText}
 use Rattle.script_text.specs.declared.scripts.CallText.TheVariants.{Put, Get, Delete}
 use Rattle.script_text.specs.declared.out_names.LineName.{LineName}
 use Rattle.script_text.specs.declared.out_names.LineName.TheVariants as name

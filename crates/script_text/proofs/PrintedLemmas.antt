@@ -1,11 +1,11 @@
 -- What is printed for a part is a visible word, and stands for the part.
-use Rattle.std.proofs.Common.{◌≡◌, ℕ, zero, suc, ◌+◌, ◌-◌, ◌*◌, ◌/◌, ◌%◌, ◌^◌, ◌<◌, ◌≤◌, ◌==◌, Bool, true, false, not, ◌&&◌, ◌||◌, cond, List, [], ◌∷◌, ◌++◌, length, take, drop, codes, Option, Some, None, refl, sym, ap, ◌∙◌, arith}
+use Rattle.std.proofs.Common.{◌≡◌, ℕ, zero, suc, ◌+◌, ◌*◌, ◌/◌, ◌%◌, ◌^◌, ◌<◌, ◌≤◌, ◌==◌, Bool, true, false, ◌&&◌, ◌||◌, List, [], ◌∷◌, ◌++◌, length, take, codes, Option, Some, None, refl, ◌∙◌, arith}
 use Rattle.std.specs.Prelude.{if◌then◌else◌, map, nat_lt, nat_le, bytes_eq}
 use Rattle.std.specs.Char.{digit_value, is_ascii_digit, is_ascii_graphic}
 use Rattle.std.specs.Fmt.{decimal, digit_glyph}
 use Rattle.std.specs.Int.{byte_at, from_be_bytes, to_be_bytes, w64}
 use Rattle.std.specs.List.{All, flat_map, list_all}
-use Rattle.std.specs.Str.Parse.{AllDigits, IsNumeral, digits_value, digits_value_after}
+use Rattle.std.specs.Str.Parse.{AllDigits, digits_value, digits_value_after}
 use Rattle.std.proofs.lemmas.Bool.{false≢true}
 use Rattle.std.proofs.lemmas.Bool.Decides.{nat_tests}
 use Rattle.std.proofs.lemmas.Fmt.{decimal_is_IsNumeral, length-decimal-le}
@@ -13,7 +13,7 @@ use Rattle.std.proofs.lemmas.List.Folds.{list_all-append}
 use Rattle.std.proofs.lemmas.Nat.{from_be_bytes-to_be_bytes_8}
 use Rattle.text_lines.specs.Number.{are_digits, number_of}
 use Rattle.script_text.specs.OutputPart.{HasInRange, IsInRange, OutPart, StandFor, StandsFor, actor, answer, bytes, call_parts, fixed, line_parts, mark_parts, not_yet_parts, number, part_text, refusal_parts, reply_parts, word}
-use Rattle.script_text.specs.OutputPlace.{actor_of, answer_of, known}
+use Rattle.script_text.specs.OutputPlace.{actor_of, answer_of}
 use Rattle.script_text.specs.OutputText.{line_words}
 use Rattle.script_text.specs.Shown.{actor_text, answer_text, are_visible, bytes_text, hex_text, is_shown_as_is, word_text}
 use Rattle.script_text.specs.WordValue.{are_hex_digits, bytes_of, hex_bytes, is_hex_digit, paired, word_of}

@@ -1,8 +1,8 @@
 -- A text of printed lines is cut into these lines, and a line into its words.
-use Rattle.std.proofs.Common.{◌≡◌, ℕ, zero, suc, ◌+◌, ◌-◌, ◌<◌, ◌≤◌, ◌==◌, Bool, true, false, ◌&&◌, List, [], ◌∷◌, ◌++◌, length, codes, get_or, refl, sym, ap, ◌∙◌, arith, append_assoc, Ok}
-use Rattle.std.specs.Prelude.{if◌then◌else◌, map, nat_le}
+use Rattle.std.proofs.Common.{◌≡◌, ℕ, zero, suc, ◌-◌, ◌<◌, ◌==◌, Bool, true, false, ◌&&◌, List, [], ◌∷◌, ◌++◌, length, codes, get_or, refl, ap, ◌∙◌, arith, append_assoc, Ok}
+use Rattle.std.specs.Prelude.{map, nat_le}
 use Rattle.std.specs.Char.{is_ascii_graphic}
-use Rattle.std.specs.List.{All, filter, flat_map, list_all, slice_split}
+use Rattle.std.specs.List.{All, filter, list_all, slice_split}
 use Rattle.std.proofs.lemmas.Bool.{false≢true, lt-ltb}
 use Rattle.std.proofs.lemmas.Bool.Decides.{nat_tests}
 use Rattle.std.proofs.lemmas.List.{append-nil}
@@ -14,7 +14,7 @@ use Rattle.text_lines.specs.Words.{is_blank, is_filled, words_of}
 use Rattle.script_text.specs.OutputForm.{line_of, line_of_words}
 use Rattle.script_text.specs.OutputPart.{HasInRange, line_parts}
 use Rattle.script_text.specs.OutputShape.{AreInRange}
-use Rattle.script_text.specs.OutputText.{joined, line_text, line_words, spaced, text_of}
+use Rattle.script_text.specs.OutputText.{joined, line_words, spaced, text_of}
 use Rattle.script_text.specs.Shown.{are_visible}
 use Rattle.script_text.specs.declared.out_lines.OutLine.{OutLine}
 use Rattle.script_text.proofs.FormedLemmas.{line_formed}

@@ -1,7 +1,7 @@
 -- Places one after the other.
 use Rattle.std.proofs.Common.{◌≡◌, ℕ, Bool, List, [], ◌∷◌, ◌++◌, refl, sym, ap, ◌∙◌}
 use Rattle.script_text.specs.OutputForm.{call_form, entry_form, open_form, reply_form}
-use Rattle.script_text.specs.OutputPlace.{NumberDue, Place, Reading, behind, behind_all, past, number_in, past_all, rest}
+use Rattle.script_text.specs.OutputPlace.{NumberDue, Place, Reading, behind_all, past, number_in, past_all, rest}
 use Rattle.script_text.specs.declared.out_lines.OutLine.TheVariants.{Entry}
 use Rattle.script_text.specs.declared.out_lines.ReplyText.{ReplyText}
 use Rattle.script_text.specs.declared.scripts.CallText.{CallText}

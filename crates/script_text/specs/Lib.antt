@@ -3,6 +3,7 @@ pub mod Keyword
 pub mod LineForm
 pub mod LineRead
 pub mod Meaning
+pub mod OutputFault
 pub mod OutputForm
 pub mod OutputMeaning
 pub mod OutputPart

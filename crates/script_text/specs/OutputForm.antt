@@ -3,7 +3,7 @@ use Rattle.std.specs.Prelude.{ℕ, Bool, true, false, if◌then◌else◌, List,
 use Rattle.text_lines.specs.Lines.{has_bad_byte}
 use Rattle.text_lines.specs.Number.{number_of}
 use Rattle.text_lines.specs.Words.{words_of}
-use Rattle.script_text.specs.OutputPlace.{ActorDue, AnswerDue, AnyWords, BytesDue, Exactly, NumberDue, Place, Reading, Unknown, WordDue, actor_in, answer_in, behind_all, bytes_in, first_fault, number_in, past_all, rest, value_or, word_in}
+use Rattle.script_text.specs.OutputPlace.{ActorDue, AnswerDue, AnyWords, BytesDue, Exactly, NumberDue, Place, Reading, Unknown, WordDue, actor_in, answer_in, behind_all, bytes_in, first_fault, number_in, past_all, rest, word_in}
 use Rattle.script_text.specs.WordValue.{word_of}
 use Rattle.script_text.specs.declared.faults.BadKind.{BadKind}
 use Rattle.script_text.specs.declared.faults.BadKind.TheVariants as kind

@@ -1,5 +1,5 @@
 -- What is due at each place of an output line, and what a reader of its words has met so far.
-use Rattle.std.specs.Prelude.{ℕ, Bool, nat_lt, if◌then◌else◌, List, [], ◌∷◌, codes, Option, Some, None, bytes_eq}
+use Rattle.std.specs.Prelude.{ℕ, nat_lt, if◌then◌else◌, List, [], ◌∷◌, codes, Option, Some, None, bytes_eq}
 use Rattle.text_lines.specs.Number.{number_of}
 use Rattle.script_text.specs.WordValue.{bytes_of, word_of}
 use Rattle.script_text.specs.declared.faults.BadKind.{BadKind}

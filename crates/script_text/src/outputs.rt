@@ -32,6 +32,7 @@ pub fn parse_output(alloc: Global, text: &[u8]) -> Result<Vec<OutLine>, ScriptFa
     requires { length text.now ≤ MOST_BYTES }
     ensures lines { IfOk result (λ lines. output_of text.now ≡ Ok lines.items) }
     ensures shape { IfOk result (λ lines. IsOutput lines.items) }
+    ensures few { IfOk result (λ lines. length lines.items ≤ length text.now) }
     ensures bad { IfErr result (λ fault. IsBad fault (output_of text.now)) }
 {
     let mut lines = Vec::new(alloc);

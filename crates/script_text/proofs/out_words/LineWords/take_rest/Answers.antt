@@ -1,4 +1,4 @@
-use Rattle.std.proofs.Common.{refl, sym, ◌∙◌, ap}
+use Rattle.std.proofs.Common.{ap}
 use Rattle.text_lines.specs.Words.{words_of}
 use Rattle.script_text.specs.OutputPlace.{AnyWords, past}
 use Rattle.script_text.proofs.out_words.LineWords.take_rest.Goals as goal
