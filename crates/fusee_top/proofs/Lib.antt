@@ -1,9 +1,10 @@
-pub mod FormLemmas
+pub mod LeaseLemmas
 pub mod ListLemmas
 pub mod OfflineLemmas
+pub mod ReadLemmas
 pub mod RecordsLemmas
 pub mod RunLemmas
-pub mod SpelledLemmas
+pub mod SmallLemmas
 pub mod ToldLemmas
 pub mod WordLemmas
 pub mod WrittenLemmas
