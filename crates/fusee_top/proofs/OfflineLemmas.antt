@@ -16,7 +16,12 @@ use Rattle.script_text.specs.ScriptForm.{Fault, Plan, reading_of}
 use Rattle.script_text.proofs.ScriptFormLemmas.{means-reading_of, reading_of-means}
 use Rattle.script_text.specs.declared.out_lines.OutLine.{OutLine}
 use Rattle.text_lines.specs.Lines as text
-use Rattle.fusee_top.specs.Course.{Ends, EndsIn, SinkCourse, SourceCourse, ReadFailed, WriteFailed, Wrote}
+use Rattle.trace_audit.specs.Verdicts.{IsVerdict}
+use Rattle.trace_audit.specs.declared.verdicts.Verdict.{Verdict}
+use Rattle.script_text.specs.declared.faults.BadKind.{BadKind}
+use Rattle.fusee_top.specs.Notices.{bad_line_text}
+use Rattle.fusee_top.specs.Verdict.{verdict_text}
+use Rattle.fusee_top.specs.Course.{Concludes, Ends, Starves, EndsIn, SinkCourse, SourceCourse, ReadFailed, WriteFailed, Wrote}
 use Rattle.fusee_top.specs.Endings.{Comes, Ending, IsOutputEnding, Ran, Told, ending_status, ending_text, events_ending, leases_ending, output_status, read_ending, script_ending, sized_ending, small_ending, status_of}
 use Rattle.fusee_top.specs.Input.{GaveMore, WasAll}
 use Rattle.fusee_top.specs.Offline.{Answers, HasBadLine, HasReadFault, HasTooManyBytes, HasTooManyWords, HasUsage, IsAccepted, IsNotBuilt, IsStatus, IsTooLarge, Meets, Outcome, RanAudit, RanLeases, RanScript, ReadFault, TooLarge, Usage, Whole, input_status, outcome_ending}
@@ -49,6 +54,9 @@ met named source sink result n (inl p) is five six = absurd (six (sym is ∙ p.0
 met named source sink result n (inr (outcome, meets, ends)) is five six =
     let done = settled sink (ending_text (outcome_ending outcome)) (ending_status (outcome_ending outcome)) result n ends is five six in
     record { outcome = outcome; meets = meets; status_is = done.0; wrote = done.1 }
+
+same_command : (named called : Command) → Some named ≡ Some called → called ≡ named
+same_command named called is = cc
 
 -- ---- script
 
@@ -85,19 +93,19 @@ script_ran : (source : SourceCourse) (sink : SinkCourse) (input : List ℕ) (rea
 script_ran source sink input (Ok plan) ending was read_is is status wrote = sized_ran source sink input plan (nat_lt MOST_WORDS (shape_words plan.shape)) (small_plan_of plan) ending was read_is refl refl is status wrote
 script_ran source sink input (Err fault) ending was read_is is status wrote = let three = ap ending_status is in absurd (omega arith)
 
-script_of : (source : SourceCourse) (sink : SinkCourse) (outcome : Outcome) → Meets (Some command.Script) source outcome
+script_of : (named : Option Command) (source : SourceCourse) (sink : SinkCourse) (outcome : Outcome) → named ≡ Some command.Script → Meets named source outcome
     → ending_status (outcome_ending outcome) ≡ 0 → Wrote sink (ending_text (outcome_ending outcome)) → RanScript source sink
-script_of source sink Usage meets status wrote = absurd (omega arith)
-script_of source sink ReadFault meets status wrote = absurd (omega arith)
-script_of source sink TooLarge meets status wrote = absurd (omega arith)
-script_of source sink (Whole command.Script input ending) meets status wrote = script_ran source sink input (reading_of input) ending meets.1 refl meets.2 status wrote
-script_of source sink (Whole command.Audit input ending) meets status wrote = let names = meets.0 in cc
-script_of source sink (Whole (command.Leases terms) input ending) meets status wrote = let names = meets.0 in cc
+script_of named source sink Usage names meets status wrote = absurd (omega arith)
+script_of named source sink ReadFault names meets status wrote = absurd (omega arith)
+script_of named source sink TooLarge names meets status wrote = absurd (omega arith)
+script_of named source sink (Whole called input ending) names meets status wrote =
+    let comes = rw (same_command command.Script called (sym names ∙ meets.0)) at meets.2 in
+    script_ran source sink input (reading_of input) ending meets.1 refl comes status wrote
 
 pub RanScript-answers : (named : Option Command) (source : SourceCourse) (sink : SinkCourse) (result : ℕ) → Answers named source sink result → result ≡ 0 → named ≡ Some command.Script → RanScript source sink
 RanScript-answers named source sink result answers is names =
     let m = met named source sink result 0 answers is (omega arith) (omega arith) in
-    script_of source sink m.outcome (rw names at m.meets) m.status_is m.wrote
+    script_of named source sink m.outcome names m.meets m.status_is m.wrote
 
 -- ---- audit
 
@@ -114,19 +122,19 @@ output_ran source sink input (Ok lines) ending was read_is is status wrote = rec
 }
 output_ran source sink input (Err bad) ending was read_is is status wrote = let three = ap ending_status is in absurd (omega arith)
 
-audit_of : (source : SourceCourse) (sink : SinkCourse) (outcome : Outcome) → Meets (Some command.Audit) source outcome
+audit_of : (named : Option Command) (source : SourceCourse) (sink : SinkCourse) (outcome : Outcome) → named ≡ Some command.Audit → Meets named source outcome
     → ending_status (outcome_ending outcome) ≡ 0 → Wrote sink (ending_text (outcome_ending outcome)) → RanAudit source sink
-audit_of source sink Usage meets status wrote = absurd (omega arith)
-audit_of source sink ReadFault meets status wrote = absurd (omega arith)
-audit_of source sink TooLarge meets status wrote = absurd (omega arith)
-audit_of source sink (Whole command.Script input ending) meets status wrote = let names = meets.0 in cc
-audit_of source sink (Whole command.Audit input ending) meets status wrote = output_ran source sink input (output_of input) ending meets.1 refl meets.2 status wrote
-audit_of source sink (Whole (command.Leases terms) input ending) meets status wrote = let names = meets.0 in cc
+audit_of named source sink Usage names meets status wrote = absurd (omega arith)
+audit_of named source sink ReadFault names meets status wrote = absurd (omega arith)
+audit_of named source sink TooLarge names meets status wrote = absurd (omega arith)
+audit_of named source sink (Whole called input ending) names meets status wrote =
+    let comes = rw (same_command command.Audit called (sym names ∙ meets.0)) at meets.2 in
+    output_ran source sink input (output_of input) ending meets.1 refl comes status wrote
 
 pub RanAudit-answers : (named : Option Command) (source : SourceCourse) (sink : SinkCourse) (result : ℕ) → Answers named source sink result → result ≡ 0 → named ≡ Some command.Audit → RanAudit source sink
 RanAudit-answers named source sink result answers is names =
     let m = met named source sink result 0 answers is (omega arith) (omega arith) in
-    audit_of source sink m.outcome (rw names at m.meets) m.status_is m.wrote
+    audit_of named source sink m.outcome names m.meets m.status_is m.wrote
 
 -- ---- leases
 
@@ -143,23 +151,20 @@ events_ran source sink terms input (Ok lines) ending are was read_is is status w
 }
 events_ran source sink terms input (Err bad) ending are was read_is is status wrote = let three = ap ending_status is in absurd (omega arith)
 
-leases_of : (source : SourceCourse) (sink : SinkCourse) (terms : Agreed) (outcome : Outcome) → AreTerms terms → Meets (Some (command.Leases terms)) source outcome
+leases_of : (named : Option Command) (source : SourceCourse) (sink : SinkCourse) (terms : Agreed) (outcome : Outcome) → named ≡ Some (command.Leases terms) → AreTerms terms → Meets named source outcome
     → ending_status (outcome_ending outcome) ≡ 0 → Wrote sink (ending_text (outcome_ending outcome)) → RanLeases terms source sink
-leases_of source sink terms Usage are meets status wrote = absurd (omega arith)
-leases_of source sink terms ReadFault are meets status wrote = absurd (omega arith)
-leases_of source sink terms TooLarge are meets status wrote = absurd (omega arith)
-leases_of source sink terms (Whole command.Script input ending) are meets status wrote = let names = meets.0 in cc
-leases_of source sink terms (Whole command.Audit input ending) are meets status wrote = let names = meets.0 in cc
-leases_of source sink terms (Whole (command.Leases other) input ending) are meets status wrote =
-    let names = meets.0 in
-    let same : other ≡ terms = cc in
-    events_ran source sink terms input (events_from 1 (text.lines_of input)) ending are meets.1 refl (rw same at meets.2) status wrote
+leases_of named source sink terms Usage names are meets status wrote = absurd (omega arith)
+leases_of named source sink terms ReadFault names are meets status wrote = absurd (omega arith)
+leases_of named source sink terms TooLarge names are meets status wrote = absurd (omega arith)
+leases_of named source sink terms (Whole called input ending) names are meets status wrote =
+    let comes = rw (same_command (command.Leases terms) called (sym names ∙ meets.0)) at meets.2 in
+    events_ran source sink terms input (events_from 1 (text.lines_of input)) ending are meets.1 refl comes status wrote
 
 pub RanLeases-answers : (named : Option Command) (source : SourceCourse) (sink : SinkCourse) (result : ℕ) (terms : Agreed) → Answers named source sink result → result ≡ 0
     → named ≡ Some (command.Leases terms) → AreTerms terms → RanLeases terms source sink
 RanLeases-answers named source sink result terms answers is names are =
     let m = met named source sink result 0 answers is (omega arith) (omega arith) in
-    leases_of source sink terms m.outcome are (rw names at m.meets) m.status_is m.wrote
+    leases_of named source sink terms m.outcome names are m.meets m.status_is m.wrote
 
 -- ---- the statuses of an input
 
@@ -232,7 +237,7 @@ only_usage_of named source sink result (inl p) none = inr (inr p.0)
 only_usage_of named source sink result (inr (Usage, meets, ends)) none = ends_in sink _ 2 result ends
 only_usage_of named source sink result (inr (ReadFault, meets, ends)) none = absurd (meets.0 none)
 only_usage_of named source sink result (inr (TooLarge, meets, ends)) none = absurd (meets.0 none)
-only_usage_of named source sink result (inr (Whole command input ending, meets, ends)) none = let names = meets.0 in cc
+only_usage_of named source sink result (inr (Whole command input ending, meets, ends)) none = let other = sym none ∙ meets.0 in cc
 
 fault_of : (named : Option Command) (source : SourceCourse) (sink : SinkCourse) (outcome : Outcome) → Meets named source outcome
     → ending_status (outcome_ending outcome) ≡ 4 → Wrote sink (ending_text (outcome_ending outcome)) → HasReadFault source sink
@@ -305,7 +310,7 @@ no_event terms (Ok lines) n is zero three = zero (sym is)
 no_event terms (Err bad) n is zero three = three (sym is)
 
 -- 7 and 8 come of scripts alone
-only_script : (command : Command) (input : List ℕ) (ending : Ending) (n : ℕ) → Comes command input ending → ending_status ending ≡ n → n ≢ 0 → n ≢ 3 → command ≡ command.Script
+only_script : (called : Command) (input : List ℕ) (ending : Ending) (n : ℕ) → Comes called input ending → ending_status ending ≡ n → n ≢ 0 → n ≢ 3 → called ≡ command.Script
 only_script command.Script input ending n comes is zero three = refl
 only_script command.Audit input ending n comes is zero three = absurd (no_verdict (output_of input) n (sym (ending_status-comes command.Audit input ending comes) ∙ is) zero three)
 only_script (command.Leases terms) input ending n comes is zero three = absurd (no_event terms (events_from 1 (text.lines_of input)) n (sym (ending_status-comes (command.Leases terms) input ending comes) ∙ is) zero three)
@@ -374,7 +379,7 @@ within_limit n below = grind (arith, nat_tests)
 pub decided_by : (named : Option Command) (source : SourceCourse) (sink : SinkCourse) (result : ℕ) (command : Command) (input : List ℕ)
     → Answers named source sink result → named ≡ Some command → source.left ≡ Some input → (ReadFailed source → ⊥) → EndsIn (input_status command input) result
 decided_by named source sink result command input (inl p) names told calm = inr (inr p.0)
-decided_by named source sink result command input (inr (Usage, meets, ends)) names told calm = cc
+decided_by named source sink result command input (inr (Usage, meets, ends)) names told calm = let none = sym names ∙ meets in cc
 decided_by named source sink result command input (inr (ReadFault, meets, ends)) names told calm = absurd (calm meets.1)
 decided_by named source sink result command input (inr (TooLarge, meets, ends)) names told calm =
     let more = meets.1 in
@@ -386,22 +391,22 @@ decided_by named source sink result command input (inr (Whole other read ending,
     let all = all_of_it input read source.left_now (rw told at was.read) was.at_end in
     let few = was.within in
     let size = ap length all in
-    let called = meets.0 in
+    let called = sym names ∙ meets.0 in
     let same : other ≡ command = cc in
     let status : ending_status ending ≡ status_of command input = ending_status-comes other read ending meets.2 ∙ ap (λ c. status_of c read) same ∙ ap (status_of command) all in
     rw (within_limit (length input) (omega arith), ← status) (ends_in sink _ (ending_status ending) result ends)
 
 accepted_status : (command : Command) (input : List ℕ) → IsAccepted command input → input_status command input ≡ 0
 accepted_status command.Script input accepted =
-    let means = reading_of-means input accepted.1.0 accepted.1.1.1.0 in
-    rw (within_limit (length input) accepted.0, means, below (shape_words accepted.1.0.shape) accepted.1.1.1.1.0, accepted.1.1.1.1.1) refl
+    let means = reading_of-means input accepted.1.0 accepted.1.2 in
+    rw (within_limit (length input) accepted.0, means, below (shape_words accepted.1.0.shape) accepted.1.3, accepted.1.4) refl
 accepted_status command.Audit input accepted = rw (within_limit (length input) accepted.0, accepted.1.1) refl
 accepted_status (command.Leases terms) input accepted = rw (within_limit (length input) accepted.0, accepted.1.1) refl
 
 pub complete_by : (named : Option Command) (source : SourceCourse) (sink : SinkCourse) (result : ℕ) (command : Command) (input : List ℕ)
     → Answers named source sink result → named ≡ Some command → source.left ≡ Some input → IsAccepted command input → (ReadFailed source → ⊥) → (WriteFailed sink → ⊥) → (result ≡ 0) ⊎ (result ≡ 6)
 complete_by named source sink result command input answers names told accepted calm whole =
-    let ends : EndsIn 0 result = rw accepted_status command input accepted at (decided_by named source sink result command input answers names told calm) in
+    let ends : EndsIn 0 result = rw (accepted_status command input accepted) at (decided_by named source sink result command input answers names told calm) in
     elim ends [
       | inl done ↦ inl done
       | inr (inl five) ↦ absurd (whole (write_fault_of named source sink result answers five))
@@ -433,6 +438,18 @@ IsStatus-answers named source sink result (inr (TooLarge, meets, ends)) = ended_
 IsStatus-answers named source sink result (inr (Whole command input ending, meets, ends)) = ended_status sink _ (ending_status ending) result ends (input_is_status command input ending meets.2)
 
 -- ---- what was read is carried out
+
+pub audit_tells : (sink : SinkCourse) (input : List ℕ) (lines : List OutLine) (result : ℕ) → output_of input ≡ Ok lines
+    → (Starves sink result ⊎ ((verdict : Verdict) × IsVerdict lines verdict × Ends sink (verdict_text verdict) 0 result))
+    → Starves sink result ⊎ ((ending : Ending) × IsOutputEnding (output_of input) ending × Ends sink (ending_text ending) (ending_status ending) result)
+audit_tells sink input lines result read (inl p) = inl p
+audit_tells sink input lines result read (inr (verdict, is, ends)) = inr (Ran (verdict_text verdict), rw read (verdict, is, refl), ends)
+
+pub audit_refuses : (sink : SinkCourse) (input : List ℕ) (number : ℕ) (kind : BadKind) (result : ℕ) → output_of input ≡ Err (record { number = number; kind = kind })
+    → Concludes sink (bad_line_text number kind) 3 result
+    → Starves sink result ⊎ ((ending : Ending) × IsOutputEnding (output_of input) ending × Ends sink (ending_text ending) (ending_status ending) result)
+audit_refuses sink input number kind result read (inl p) = inl p
+audit_refuses sink input number kind result read (inr ends) = inr (Told (notice.BadLine number kind), rw read refl, ends)
 
 pub Answers-carried : (named : Option Command) (source : SourceCourse) (sink : SinkCourse) (command : Command) (input read : List ℕ) (result : ℕ)
     → named ≡ Some command → read ≡ input → WasAll source.left source.left_now input

@@ -11,8 +11,6 @@ use Rattle.script_text.specs.declared.faults.BadKind.TheVariants.{Block}
 use Rattle.script_text.specs.declared.faults.ScriptFault.{ScriptFault}
 use Rattle.script_text.specs.declared.faults.ScriptFault.TheVariants.{BadLine, NoMemory}
 use Rattle.script_text.specs.declared.out_lines.OutLine.{OutLine}
-use Rattle.script_text.specs.declared.outputs.Stage.{Stage}
-use Rattle.script_text.specs.declared.outputs.Stage.TheVariants.{Between}
 use Rattle.script_text.specs.declared.scripts.Script.{Script}
 use Rattle.script_text.proofs.ScriptFormLemmas.{reading_of-means}
 use Rattle.text_lines.specs.Lines.{lines_of}
@@ -30,7 +28,10 @@ IsScript-parsed (Err NoMemory) text starved = tt
 
 -- an output has as many lines as its text
 
-ended_length : (number : ℕ) (lines : List OutLine) (closed : Bool) → (if closed then Ok [] else Err (record { number = number; kind = Block })) ≡ Ok lines → length lines ≡ 0
+abbrev closed_at : ℕ → Bool → Result (List OutLine) Bad
+closed_at number closed = if closed then Ok [] else Err (record { number = number; kind = Block })
+
+ended_length : (number : ℕ) (lines : List OutLine) (closed : Bool) → closed_at number closed ≡ Ok lines → length lines ≡ 0
 ended_length number lines true is = let same : [] ≡ lines = cc in ap length (sym same)
 ended_length number lines false is = cc
 
@@ -39,25 +40,25 @@ led_length : (out : OutLine) (read : Result (List OutLine) Bad) (lines : List Ou
 led_length out (Ok behind) lines n is short = let same : out ∷ behind ≡ lines = cc in sym (ap length same) ∙ ap suc (short behind refl)
 led_length out (Err bad) lines n is short = cc
 
-placed_length : (number : ℕ) (out : OutLine) (next : Option Stage) (texts : List (List ℕ)) (lines : List OutLine)
+placed_length : (number : ℕ) (out : OutLine) (next : Option _) (texts : List (List ℕ)) (lines : List OutLine)
     → placed number out next (λ stage. read_from (number + 1) stage texts) ≡ Ok lines
-    → ((stage : Stage) (behind : List OutLine) → read_from (number + 1) stage texts ≡ Ok behind → length behind ≡ length texts) → length lines ≡ suc (length texts)
+    → ((stage : _) (behind : List OutLine) → read_from (number + 1) stage texts ≡ Ok behind → length behind ≡ length texts) → length lines ≡ suc (length texts)
 placed_length number out None texts lines is short = cc
 placed_length number out (Some stage) texts lines is short = led_length out (read_from (number + 1) stage texts) lines (length texts) is (short stage)
 
-line_length : (number : ℕ) (stage : Stage) (read : Result OutLine BadKind) (texts : List (List ℕ)) (lines : List OutLine)
+line_length : (number : ℕ) (stage : _) (read : Result OutLine BadKind) (texts : List (List ℕ)) (lines : List OutLine)
     → followed number stage read (λ next. read_from (number + 1) next texts) ≡ Ok lines
-    → ((next : Stage) (behind : List OutLine) → read_from (number + 1) next texts ≡ Ok behind → length behind ≡ length texts) → length lines ≡ suc (length texts)
+    → ((next : _) (behind : List OutLine) → read_from (number + 1) next texts ≡ Ok behind → length behind ≡ length texts) → length lines ≡ suc (length texts)
 line_length number stage (Ok out) texts lines is short = placed_length number out (stage_after stage out) texts lines is short
 line_length number stage (Err kind) texts lines is short = cc
 
-length-read_from : (number : ℕ) (stage : Stage) (texts : List (List ℕ)) (lines : List OutLine) → read_from number stage texts ≡ Ok lines → length lines ≡ length texts
+length-read_from : (number : ℕ) (stage : _) (texts : List (List ℕ)) (lines : List OutLine) → read_from number stage texts ≡ Ok lines → length lines ≡ length texts
 length-read_from number stage [] lines is = ended_length number lines (is_closed stage) is
 length-read_from number stage (text ∷ texts) lines is = line_length number stage (line_of text) texts lines is (λ next behind. length-read_from (number + 1) next texts behind)
 
 -- no text has more lines of an output than bytes
 pub length-output_of : (text : List ℕ) (lines : List OutLine) → output_of text ≡ Ok lines → length lines ≤ length text
 length-output_of text lines is =
-    let same = length-read_from 1 Between (lines_of text) lines is in
+    let same = length-read_from 1 _ (lines_of text) lines is in
     let few = length-lines_of text in
     omega arith

@@ -71,10 +71,17 @@ not-not : (b : Bool) → not (not b) ≡ b
 not-not true = refl
 not-not false = refl
 
-listed : (e : Entry) → (record { client = e.client; number = e.number; call = audit.call_of (shown_call e.call); reply = audit.reply_of (shown_reply e.reply); returned = not (not e.returned) } : Entry) ≡ e
+-- the entry that its line tells
+abbrev told_entry : Entry → Entry
+told_entry e = record { client = e.client; number = e.number; call = audit.call_of (shown_call e.call); reply = audit.reply_of (shown_reply e.reply); returned = not (not e.returned) }
+
+listed : (e : Entry) → told_entry e ≡ e
 listed e =
-    ap₂ (λ call reply. record { client = e.client; number = e.number; call = call; reply = reply; returned = not (not e.returned) }) (call_shown e.call) (reply_shown e.reply)
-    ∙ ap (λ b. record { client = e.client; number = e.number; call = e.call; reply = e.reply; returned = b }) (not-not e.returned)
+    ap₂ (λ (call : Call) (reply : Reply). told_as e call reply (not (not e.returned))) (call_shown e.call) (reply_shown e.reply)
+    ∙ ap (λ b. told_as e e.call e.reply b) (not-not e.returned)
+  where
+    told_as : Entry → Call → Reply → Bool → Entry
+    told_as e call reply returned = record { client = e.client; number = e.number; call = call; reply = reply; returned = returned }
 
 list_from-entries : (past entries : List Entry) → audit.list_from past (map entry_line entries ++ line.End ∷ []) ≡ past ++ entries
 list_from-entries past [] = sym (append-nil past)

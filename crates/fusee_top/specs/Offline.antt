@@ -135,7 +135,7 @@ pub record HasTooManyWords (named : Option Command) (source : SourceCourse) (sin
 pub record HasTooManyBytes (named : Option Command) (source : SourceCourse) (sink : SinkCourse) : Type 0 where
   pub some : named ≢ None
   pub gave : GaveMore source.left source.left_now
-  pub wrote : Wrote sink (codes "too large 4194305\n")
+  pub wrote : Wrote sink (codes "too large " ++ decimal 4194305 ++ codes "\n")
 
 abbrev pub IsTooLarge : Option Command → SourceCourse → SinkCourse → Type 0
 IsTooLarge named source sink = HasTooManyBytes named source sink ⊎ HasTooManyWords named source sink

@@ -1,4 +1,5 @@
-ghost use Rattle.std.specs.Prelude.{◌≡◌, ◌≤◌, length};
+ghost use Rattle.std.specs.Prelude.{◌≡◌, ◌≤◌, OnOk, length};
+ghost use Rattle.lease_core.specs.Run.{answer_of, run_after};
 ghost use Rattle.outside.specs.Faults.{IsSteady};
 ghost use Rattle.lease_core.specs.Text as lease;
 ghost use Rattle.fusee_top.specs.Course.{Concludes, sink_course};
@@ -45,12 +46,28 @@ fn write_answers<K: Sink>(
 {
     let mut run = LeaseRun::new(alloc, terms)?;
     for line in lines {
-        let answer = run.step(line)?;
-        if let Err(why) = write_answer(alloc, &answer, sink) {
+        if let Err(why) = answer_line(alloc, &mut run, line, sink) {
             return Err(why);
         }
     }
     write_answer(alloc, &LeaseAnswer::End, sink)
+}
+
+// Writes the answer to the next line of a run.
+fn answer_line<K: Sink>(
+    alloc: Global,
+    run: &mut LeaseRun,
+    line: &LeaseLine,
+    sink: &mut K,
+) -> Result<(), Unwritten>
+    ensures after { OnOk result (run.new ≡ run_after run.old line.now) }
+    ensures written { Writes K.held K.faults sink.old sink.new result
+        (lease.answer_text (answer_of run.old line.now)) }
+    ensures later { K.faults sink.old ≤ K.faults sink.new }
+    ensures steady { IsSteady K.cannot_fail K.faults sink.old sink.new }
+{
+    let answer = run.step(line)?;
+    write_answer(alloc, &answer, sink)
 }
 
 // Writes one answer. No write is handed bytes of two lines.

@@ -88,6 +88,7 @@ pub fn words_of(shape: &Shape) -> u64
 }
 
 /// What the client does in the script, where the script has no other lines.
+#[tactic(auto, unfolding(crate::specs::Small::small_plan_of))]
 pub fn small_script_of(alloc: Global, script: &Script) -> Result<SmallScript, Unfit>
     ensures small { IsSmallScript result (small_plan_of (plan_of script.now)) }
     ensures plain { IfOk result IsSmall }
