@@ -51,7 +51,7 @@ appends-next a b c run before lines i d within known past here =
 -- the text of the whole run, cut at the answer to a line
 run_text-cut : (terms : Agreed) (lines : List LeaseLine) (i : ℕ) (line : LeaseLine) → i < length lines → line ≡ get_or lines i line
     → run_text terms lines ≡ text_of (answers_along (opening terms) (take i lines)) ++ (answer_text (answer_of (run_along (opening terms) (take i lines)) line)
-        ++ text_of (answers_along (run_after (run_along (opening terms) (take i lines)) line) (drop (suc i) lines) ++ told.End ∷ []))
+    ++ text_of (answers_along (run_after (run_along (opening terms) (take i lines)) line) (drop (suc i) lines) ++ told.End ∷ []))
 run_text-cut terms lines i line within is =
     let front : List LeaseAnswer = answers_along (opening terms) (take i lines) in
     let here : LeaseAnswer = answer_of (run_along (opening terms) (take i lines)) line in

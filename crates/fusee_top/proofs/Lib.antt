@@ -1,6 +1,8 @@
+pub mod CommandLemmas
 pub mod LeaseLemmas
 pub mod ListLemmas
 pub mod OfflineLemmas
+pub mod OptionLemmas
 pub mod ReadLemmas
 pub mod RecordsLemmas
 pub mod RunLemmas

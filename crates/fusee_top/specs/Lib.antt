@@ -3,6 +3,7 @@ pub mod Endings
 pub mod Input
 pub mod Notices
 pub mod Offline
+pub mod Options
 pub mod Parsed
 pub mod Records
 pub mod Run

@@ -1,17 +1,18 @@
-ghost use Rattle.std.specs.Prelude.{◌≡◌, ◌⊎◌, ◌≤◌, IfOk, length, map};
+ghost use Rattle.std.specs.Prelude.{◌≡◌, ◌⊎◌, ◌≤◌, length, map};
 ghost use Rattle.std.specs.String.{string_bytes};
 ghost use Rattle.outside.specs.Faults.{IsSteady};
 ghost use Rattle.fusee_top.specs.Course.{Ends, Starves, sink_course};
 ghost use Rattle.fusee_top.specs.Endings.{Comes, Ending, ending_status, ending_text};
-ghost use Rattle.fusee_top.specs.Words.{command_of, lone};
+ghost use Rattle.fusee_top.specs.Words.{IsNamed, command_of, leases_of, lone, terms_in};
 ghost use Rattle.fusee_top.specs.declared.commands.Command.{Command};
 
 use crate::audits::audit_text;
 use crate::leases::run_leases;
+use crate::options::{Misread, option_values};
 use crate::running::run_script;
-use lease_core::Terms;
+use lease_core::{Terms, terms_of};
 use outside::Sink;
-use std::alloc::{AllocError, Global};
+use std::alloc::Global;
 
 /// What the words of a call name.
 #[derive(Clone, Copy, Debug)]
@@ -25,28 +26,50 @@ pub enum Command {
 }
 
 /// The command that the words name, if they have the form of one.
-pub fn command_of(alloc: Global, words: &[String]) -> Result<Option<Command>, AllocError>
-    ensures { IfOk result (λ command. command ≡ command_of (map string_bytes words.now)) }
+pub fn command_of(alloc: Global, words: &[String]) -> Result<Command, Misread>
+    ensures { IsNamed result (command_of (map string_bytes words.now)) }
 {
     let Some((name, words)) = words.split_first() else {
-        return Ok(None);
+        return Err(Misread::Form);
     };
     match name.as_str() {
-        "script" => Ok(lone(Command::Script, words)),
-        "audit" => Ok(lone(Command::Audit, words)),
-        _ => Ok(None),
+        "script" => lone(Command::Script, words),
+        "audit" => lone(Command::Audit, words),
+        "leases" => leases_of(alloc, words),
+        _ => Err(Misread::Form),
     }
 }
 
 // The command, where no word follows its name.
-fn lone(command: Command, words: &[String]) -> Option<Command>
-    ensures { result ≡ lone command (map string_bytes words.now) }
+fn lone(command: Command, words: &[String]) -> Result<Command, Misread>
+    ensures { IsNamed result (lone command (map string_bytes words.now)) }
 {
     if words.is_empty() {
-        Some(command)
+        Ok(command)
     } else {
-        None
+        Err(Misread::Form)
     }
+}
+
+// Leases under the terms that the words behind the name give.
+fn leases_of(alloc: Global, words: &[String]) -> Result<Command, Misread>
+    ensures { IsNamed result (leases_of (map string_bytes words.now)) }
+{
+    let names = ["length", "error"];
+    let values = option_values(alloc, &names, words)?;
+    let [length, error] = values.as_slice() else {
+        return Err(Misread::Form);
+    };
+    let Some(terms) = terms_in(*length, *error) else {
+        return Err(Misread::Form);
+    };
+    Ok(Command::Leases(terms))
+}
+
+fn terms_in(length: u64, error: u64) -> Option<Terms>
+    ensures { result ≡ terms_in length error }
+{
+    terms_of(length, error)
 }
 
 /// Carries out a command that reads, over all that was read.

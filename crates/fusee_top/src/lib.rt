@@ -7,9 +7,12 @@ mod client;
 mod commands;
 mod leases;
 mod notices;
+mod options;
 mod reading;
 mod running;
 mod scripts;
+#[cfg(test)]
+mod tests;
 mod top_call;
 mod writing;
 

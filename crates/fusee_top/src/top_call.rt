@@ -10,6 +10,7 @@ ghost use Rattle.lease_core.specs.Terms.{Agreed};
 
 use crate::commands::{carry_out, command_of};
 use crate::notices::{NO_MEMORY, Notice, write_notice};
+use crate::options::Misread;
 use crate::reading::{Input, LIMIT, read_all};
 use outside::{Sink, Source};
 use std::alloc::Global;
@@ -80,11 +81,10 @@ fn conduct<S: Source, K: Sink>(alloc: Global, words: &[String], source: &mut S, 
     ensures steady_source { IsSteady S.cannot_fail S.faults source.old source.new }
     ensures steady_sink { IsSteady K.cannot_fail K.faults sink.old sink.new }
 {
-    let Ok(named) = command_of(alloc, words) else {
-        return NO_MEMORY;
-    };
-    let Some(command) = named else {
-        return write_notice(alloc, Notice::Usage, sink);
+    let command = match command_of(alloc, words) {
+        Ok(command) => command,
+        Err(Misread::Form) => return write_notice(alloc, Notice::Usage, sink),
+        Err(Misread::NoMemory) => return NO_MEMORY,
     };
     match read_all(alloc, source) {
         Input::Whole(text) => carry_out(alloc, command, text.as_slice(), sink),
