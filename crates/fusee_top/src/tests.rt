@@ -1,4 +1,6 @@
-ghost use Rattle.std.specs.Prelude.{None};
+ghost use Rattle.std.specs.Prelude.{◌≡◌, ◌⊎◌, IfOk, None};
+ghost use Rattle.fusee_top.specs.Offline.{input_status};
+ghost use Rattle.fusee_top.specs.declared.commands.Command.TheVariants as command;
 
 use super::offline;
 use outside::{Got, MemorySink, MemorySource, Sink, Source, Took};
@@ -19,7 +21,7 @@ fn words_of(alloc: Global, texts: &[&str]) -> Result<Vec<String>, AllocError> {
     Ok(words)
 }
 
-// Carries out a command over this input, so many bytes a read, where the reads and the writes of
+// Carries out a command over this input, one byte a read, where the reads and the writes of
 // these numbers fail, and answers the status and the output.
 fn call(
     alloc: Global,
@@ -34,6 +36,31 @@ fn call(
     let status = offline(alloc, &words, &mut source, &mut sink);
     let output = sink.bytes().to_vec(alloc)?;
     Ok((status, output))
+}
+
+// The same of `script` where no call fails: but for want of memory, the input alone decides the status.
+fn script_without_faults(alloc: Global, input: &[u8]) -> Result<(u8, Vec<u8>), AllocError>
+    ensures { IfOk result (λ got. (got.0 ≡ input_status command.Script input.now) ⊎ (got.0 ≡ 6)) }
+{
+    let mut words = Vec::new(alloc);
+    words.push(String::from_str(alloc, "script")?)?;
+    let mut source = MemorySource::new(input.to_vec(alloc)?, 1, Vec::new(alloc));
+    let mut sink = MemorySink::new(alloc, Vec::new(alloc));
+    let status = offline(alloc, &words, &mut source, &mut sink);
+    let output = sink.bytes().to_vec(alloc)?;
+    Ok((status, output))
+}
+
+fn check_script(
+    rt: &(impl Abort + AllocGlobal),
+    input: &[u8],
+    status: u8,
+    output: &[u8],
+) -> Result<(), AllocError> {
+    let got = script_without_faults(rt.alloc(), input)?;
+    assert_eq!(rt; got.0, status);
+    assert_eq!(rt; got.1.as_slice(), output);
+    Ok(())
 }
 
 fn check(
@@ -140,9 +167,9 @@ const SCRIPTS: [(&[u8], u8, &[u8]); 25] = [
 
 #[test]
 fn scripts_are_run_or_refused(rt: HostRuntime) -> Result<(), Fail> {
-    check(&rt, &["script"], FIRST, 0, FIRST_OUTPUT)?;
+    check_script(&rt, FIRST, 0, FIRST_OUTPUT)?;
     for (input, status, output) in SCRIPTS {
-        check(&rt, &["script"], input, status, output)?;
+        check_script(&rt, input, status, output)?;
     }
     Ok(())
 }
