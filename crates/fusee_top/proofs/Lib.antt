@@ -1,9 +1,12 @@
-pub mod FormLemmas
+pub mod CommandLemmas
+pub mod LeaseLemmas
 pub mod ListLemmas
 pub mod OfflineLemmas
+pub mod OptionLemmas
+pub mod ReadLemmas
 pub mod RecordsLemmas
 pub mod RunLemmas
-pub mod SpelledLemmas
+pub mod SmallLemmas
 pub mod ToldLemmas
 pub mod WordLemmas
 pub mod WrittenLemmas

@@ -14,7 +14,7 @@ use Rattle.map_model.specs.declared.calls.Call.TheVariants.{Get, Put, Delete}
 use Rattle.map_model.specs.declared.calls.Reply.TheVariants.{Value, Absent}
 use Rattle.map_model.specs.declared.entries.Entry.{Entry}
 use Rattle.map_model.specs.Map.{Map, after, empty_map, map_after, reply_of}
-use Rattle.fusee_top.specs.Form.{ArePlain, is_plain, is_plain_call}
+use Rattle.fusee_top.specs.Small.{ArePlain, is_plain, is_plain_call}
 use Rattle.fusee_top.specs.Records.{records_after, reply_in, text_in, value_in, word_of}
 use Rattle.fusee_top.specs.Run.{entries_from, entries_of, entry_of}
 use Rattle.fusee_top.proofs.WordLemmas.{text_in-word_of, word_of-differ}

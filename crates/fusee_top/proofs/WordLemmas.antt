@@ -10,8 +10,8 @@ use Rattle.std.proofs.lemmas.List.{length-append, length-drop, length-replicate}
 use Rattle.std.proofs.lemmas.List.Folds.{prefix_len-append}
 use Rattle.std.proofs.lemmas.Nat.{le_bytes_8}
 use Rattle.std.proofs.Math.Seq.{take-append_seam}
-use Rattle.fusee_top.specs.Form.{is_plain}
-use Rattle.fusee_top.specs.Shown.{are_visible}
+use Rattle.fusee_top.specs.Small.{is_plain}
+use Rattle.script_text.specs.Shown.{are_visible}
 use Rattle.fusee_top.specs.Records.{text_in, word_of}
 
 else_part : (b x : Bool) → (if b then false else x) ≡ true → (b ≡ false) × (x ≡ true)

@@ -1,10 +1,12 @@
 -- Writers one after another.
-use Rattle.std.proofs.Common.{ℕ, ◌≤◌, List, ◌++◌, arith}
-use Rattle.std.specs.Prelude.{Option}
+use Rattle.std.proofs.Common.{◌≡◌, ℕ, ◌≤◌, List, [], ◌++◌, inl, inr, subst, append-nil, arith}
+use Rattle.std.specs.Prelude.{Option, Result, Ok, Err}
 use Rattle.std.specs.Io.KnownBytes.{Appends}
 use Rattle.outside.specs.Faults.{Rose}
-use Rattle.outside.proofs.AppendedLemmas.{appends_front, front_of_longer}
-use Rattle.fusee_top.specs.Written.{Stops}
+use Rattle.outside.proofs.AppendedLemmas.{appends_front, appends_then, front_of_longer}
+use Rattle.fusee_top.specs.Course.{Concludes, sink_course}
+use Rattle.fusee_top.specs.Notices.{ended}
+use Rattle.fusee_top.specs.Written.{Stops, Writes}
 use Rattle.fusee_top.specs.declared.writing.Unwritten.{Unwritten}
 use Rattle.fusee_top.specs.declared.writing.Unwritten.TheVariants.{Fault, NoMemory}
 
@@ -16,3 +18,17 @@ pub stops_then : (a b c : Option (List ℕ)) (first second third : ℕ) (why : U
     → Appends a b xs → first ≤ second → Stops b c second third why ys → Stops a c first third why (xs ++ (ys ++ zs))
 stops_then a b c first second third Fault xs ys zs p later w = (rose_later first second third later w.0, appends_front a b c xs (ys ++ zs) p (front_of_longer b c ys zs w.1))
 stops_then a b c first second third NoMemory xs ys zs p later w = appends_front a b c xs (ys ++ zs) p (front_of_longer b c ys zs w)
+
+-- a text that is written behind one that was appended
+pub writes_then : {K T : Type 0} (held : K → Option (List ℕ)) (faults : K → ℕ) (a b c : K) (result : Result T Unwritten) (xs ys : List ℕ)
+    → Appends (held a) (held b) xs → faults a ≤ faults b → Writes held faults b c result ys → Writes held faults a c result (xs ++ ys)
+writes_then held faults a b c (Ok value) xs ys p later w = appends_then (held a) (held b) (held c) xs ys p w
+writes_then held faults a b c (Err why) xs ys p later w =
+    subst (λ t. Stops (held a) (held c) (faults a) (faults c) why (xs ++ t)) (append-nil ys) (stops_then (held a) (held b) (held c) (faults a) (faults b) (faults c) why xs ys [] p later w)
+
+-- a call that writes a text ends so
+pub Concludes-written : {K T : Type 0} (held : K → Option (List ℕ)) (faults : K → ℕ) (a b : K) (written : Result T Unwritten) (text : List ℕ) (status result : ℕ)
+    → Writes held faults a b written text → result ≡ ended written status → Concludes (sink_course held faults a b) text status result
+Concludes-written held faults a b (Ok value) text status result w is = inr (inl (is, w))
+Concludes-written held faults a b (Err Fault) text status result w is = inr (inr (inl (is, w.0, w.1)))
+Concludes-written held faults a b (Err NoMemory) text status result w is = inr (inr (inr (is, w)))

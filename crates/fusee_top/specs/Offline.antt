@@ -1,127 +1,166 @@
--- What the top call answers: the statuses, when each comes, and what the sink then holds.
-use Rattle.std.specs.Prelude.{◌≡◌, ℕ, Bool, true, false, ◌⊎◌, nat_lt, if◌then◌else◌, List, [], ◌∷◌, ◌++◌, length, codes, Option, Result, Ok, Err, bytes_eq}
+-- What the top call answers: when each status comes, and what the sink then holds.
+use Rattle.std.specs.Prelude.{◌≡◌, ◌≢◌, ℕ, ◌<◌, ◌≤◌, ◌⊎◌, nat_lt, if◌then◌else◌, List, ◌++◌, length, codes, Option, Some, None, Ok, Err, slice_get}
 use Rattle.std.specs.Fmt.{decimal}
-use Rattle.std.specs.Io.KnownBytes.{Appends}
-use Rattle.outside.specs.Appended.{AppendsFront}
-use Rattle.outside.specs.Faults.{Rose}
+use Rattle.lease_core.specs.Grammar.{events_from}
+use Rattle.lease_core.specs.Run.{answers}
+use Rattle.lease_core.specs.Terms.{Agreed}
+use Rattle.lease_core.specs.Text as lease
+use Rattle.lease_core.specs.declared.answering.LeaseAnswer.{LeaseAnswer}
+use Rattle.lease_core.specs.declared.answering.LeaseAnswer.TheVariants as told
+use Rattle.lease_core.specs.declared.lease_lines.LeaseLine.{LeaseLine}
 use Rattle.map_model.specs.Linear.{IsLinear}
-use Rattle.fusee_top.specs.Form.{Plan, script_of}
+use Rattle.script_text.specs.Meaning.{Means}
+use Rattle.script_text.specs.OutputRead.{output_of}
+use Rattle.script_text.specs.OutputText.{text_of}
+use Rattle.script_text.specs.ScriptForm.{Plan}
+use Rattle.script_text.specs.declared.faults.BadKind.{BadKind}
+use Rattle.script_text.specs.declared.out_lines.OutLine.{OutLine}
+use Rattle.text_lines.specs.Lines as text
+use Rattle.trace_audit.specs.Told.{history_of, trace_of}
+use Rattle.trace_audit.specs.Verdicts.{IsVerdict}
+use Rattle.trace_audit.specs.declared.verdicts.Verdict.{Verdict}
+use Rattle.fusee_top.specs.Course.{Ends, SinkCourse, SourceCourse, ReadFailed, Starves, Wrote}
+use Rattle.fusee_top.specs.Endings.{Comes, Ending, Told, ending_status, ending_text, status_of}
 use Rattle.fusee_top.specs.Input.{GaveMore, WasAll}
-use Rattle.fusee_top.specs.Run.{lines_of, run_text}
-use Rattle.fusee_top.specs.Text.{text_of}
-use Rattle.fusee_top.specs.Told.{history_of, trace_of}
-use Rattle.fusee_top.specs.declared.commands.Notice.{Notice}
-use Rattle.fusee_top.specs.declared.commands.Notice.TheVariants as notice
-use Rattle.fusee_top.specs.declared.out_lines.OutLine.{OutLine}
+use Rattle.fusee_top.specs.Notices.{bad_line_text, notice_text}
+use Rattle.fusee_top.specs.Run.{lines_of}
+use Rattle.fusee_top.specs.Sizes.{shape_words}
+use Rattle.fusee_top.specs.declared.scripts.TheConstants.{MOST_WORDS}
+use Rattle.fusee_top.specs.Small.{SmallPlan, small_plan_of}
+use Rattle.fusee_top.specs.Verdict.{verdict_text}
+use Rattle.fusee_top.specs.declared.commands.Command.{Command}
+use Rattle.fusee_top.specs.declared.commands.Command.TheVariants as command
+use Rattle.fusee_top.specs.declared.notices.Notice.TheVariants as notice
 use Rattle.fusee_top.specs.declared.reading.TheConstants.{LIMIT}
-use Rattle.fusee_top.specs.declared.writing.Unwritten.{Unwritten}
-use Rattle.fusee_top.specs.declared.writing.Unwritten.TheVariants.{Fault, NoMemory}
 
--- whether the words are the command
-abbrev pub is_script : List (List ℕ) → Bool
-is_script [] = false
-is_script (word ∷ []) = bytes_eq word (codes "script")
-is_script (word ∷ other ∷ words) = false
+-- ---- what a call meets
 
--- the line that is written in place of a run, and its status
-abbrev pub notice_text : Notice → List ℕ
-notice_text notice.Usage = codes "usage\n"
-notice_text notice.ReadFault = codes "read fault\n"
-notice_text notice.TooLarge = codes "too large 4194305\n"
-notice_text (notice.NotBuilt line) = codes "not built " ++ decimal line ++ codes "\n"
-
-abbrev pub notice_status : Notice → ℕ
-notice_status notice.Usage = 2
-notice_status notice.ReadFault = 4
-notice_status notice.TooLarge = 7
-notice_status (notice.NotBuilt line) = 8
-
--- the text and the status of an input within size, by what it was read as
-abbrev pub read_text : Result Plan ℕ → List ℕ
-read_text (Ok plan) = run_text plan
-read_text (Err line) = notice_text (notice.NotBuilt line)
-
-abbrev pub read_status : Result Plan ℕ → ℕ
-read_status (Ok plan) = 0
-read_status (Err line) = 8
-
-abbrev pub script_text : List ℕ → List ℕ
-script_text input = read_text (script_of input)
-
-abbrev pub script_status : List ℕ → ℕ
-script_status input = read_status (script_of input)
-
--- the status of any input
-abbrev pub input_status : List ℕ → ℕ
-input_status input = if nat_lt LIMIT (length input) then 7 else script_status input
-
--- the status where the writing of a text stopped, and else the text's own
-abbrev pub ended : {T : Type 0} → Result T Unwritten → ℕ → ℕ
-ended (Ok value) status = status
-ended (Err Fault) status = 5
-ended (Err NoMemory) status = 6
-
--- the status, or 5 or 6 in its place
-abbrev pub EndsIn : ℕ → ℕ → Type 0
-EndsIn status result = (result ≡ status) ⊎ ((result ≡ 5) ⊎ (result ≡ 6))
-
--- the text was appended and the answer is its status, or a write failed and it is 5, or memory was wanting and it is 6, with a front of the text
-abbrev pub Ends : Option (List ℕ) → Option (List ℕ) → ℕ → ℕ → List ℕ → ℕ → ℕ → Type 0
-Ends held held' faults faults' text status result =
-    ((result ≡ status) × Appends held held' text)
-    ⊎ (((result ≡ 5) × Rose faults faults' × AppendsFront held held' text)
-    ⊎ ((result ≡ 6) × AppendsFront held held' text))
-
--- what the call met before it wrote
+-- what it met before it wrote
 pub data Outcome : Type 0 where
   Usage : Outcome
   ReadFault : Outcome
   TooLarge : Outcome
-  Whole : (input : List ℕ) → Outcome
+  Whole : (command : Command) (input : List ℕ) (ending : Ending) → Outcome
 
--- when it meets that: given whether the words are the command, what the source had left before and after, and its faults
-abbrev pub Meets : Bool → Option (List ℕ) → Option (List ℕ) → ℕ → ℕ → Outcome → Type 0
-Meets command left left' faults faults' Usage = command ≡ false
-Meets command left left' faults faults' ReadFault = (command ≡ true) × Rose faults faults'
-Meets command left left' faults faults' TooLarge = (command ≡ true) × GaveMore left left'
-Meets command left left' faults faults' (Whole input) = (command ≡ true) × WasAll left left' input
+-- when it meets that, given the command that the words name
+abbrev pub Meets : Option Command → SourceCourse → Outcome → Type 0
+Meets named source Usage = named ≡ None
+Meets named source ReadFault = (named ≢ None) × ReadFailed source
+Meets named source TooLarge = (named ≢ None) × GaveMore source.left source.left_now
+Meets named source (Whole command input ending) = (named ≡ Some command) × WasAll source.left source.left_now input × Comes command input ending
 
-abbrev pub outcome_text : Outcome → List ℕ
-outcome_text Usage = notice_text notice.Usage
-outcome_text ReadFault = notice_text notice.ReadFault
-outcome_text TooLarge = notice_text notice.TooLarge
-outcome_text (Whole input) = script_text input
-
-abbrev pub outcome_status : Outcome → ℕ
-outcome_status Usage = 2
-outcome_status ReadFault = 4
-outcome_status TooLarge = 7
-outcome_status (Whole input) = script_status input
+abbrev pub outcome_ending : Outcome → Ending
+outcome_ending Usage = Told notice.Usage
+outcome_ending ReadFault = Told notice.ReadFault
+outcome_ending TooLarge = Told (notice.TooLarge 4194305)
+outcome_ending (Whole command input ending) = ending
 
 -- the answer, and what the sink holds: that of what was met, or 6 and nothing more than before
-abbrev pub Answers : Bool → Option (List ℕ) → Option (List ℕ) → ℕ → ℕ → Option (List ℕ) → Option (List ℕ) → ℕ → ℕ → ℕ → Type 0
-Answers command left left' faults faults' held held' sink_faults sink_faults' result =
-    ((result ≡ 6) × (held' ≡ held))
-    ⊎ ((met : Outcome) × Meets command left left' faults faults' met × Ends held held' sink_faults sink_faults' (outcome_text met) (outcome_status met) result)
+abbrev pub Answers : Option Command → SourceCourse → SinkCourse → ℕ → Type 0
+Answers named source sink result =
+    Starves sink result
+    ⊎ ((met : Outcome) × Meets named source met × Ends sink (ending_text (outcome_ending met)) (ending_status (outcome_ending met)) result)
+
+-- ---- status 0
 
 -- a script was read whole and run, and its lines were written: the history in them is a linearization of the trace in them
-pub record RanWhole (left left' held held' : Option (List ℕ)) : Type 0 where
+pub record RanScript (source : SourceCourse) (sink : SinkCourse) : Type 0 where
   pub input : List ℕ
   pub plan : Plan
+  pub small : SmallPlan
   pub lines : List OutLine
-  pub read : WasAll left left' input
-  pub script : script_of input ≡ Ok plan
-  pub run : lines ≡ lines_of plan
-  pub wrote : Appends held held' (text_of lines)
+  pub read : WasAll source.left source.left_now input
+  pub script : Means input plan
+  pub within : shape_words plan.shape ≤ MOST_WORDS
+  pub form : small_plan_of plan ≡ Ok small
+  pub run : lines ≡ lines_of small
+  pub wrote : Wrote sink (text_of lines)
   pub linear : IsLinear (trace_of lines) (history_of lines)
 
--- an input was read whole and is no script: its first line that leaves the form was told
-pub record IsNotBuilt (left left' held held' : Option (List ℕ)) : Type 0 where
+-- an output was read whole, and the verdict on it was written
+pub record RanAudit (source : SourceCourse) (sink : SinkCourse) : Type 0 where
   pub input : List ℕ
+  pub lines : List OutLine
+  pub verdict : Verdict
+  pub read : WasAll source.left source.left_now input
+  pub output : output_of input ≡ Ok lines
+  pub judged : IsVerdict lines verdict
+  pub wrote : Wrote sink (verdict_text verdict)
+
+-- no verb of a client is lawful once the client is fenced
+abbrev pub StayFenced : List LeaseAnswer → Type 0
+StayFenced answers = (client fenced verb : ℕ) → slice_get answers fenced ≡ Some (told.Fenced client) → fenced < verb → slice_get answers verb ≢ Some (told.Lawful client)
+
+-- lease lines were read whole, and the answers of their run were written: no verb is lawful after fencing
+pub record RanLeases (terms : Agreed) (source : SourceCourse) (sink : SinkCourse) : Type 0 where
+  pub input : List ℕ
+  pub lines : List LeaseLine
+  pub read : WasAll source.left source.left_now input
+  pub events : events_from 1 (text.lines_of input) ≡ Ok lines
+  pub wrote : Wrote sink (lease.text_of (answers terms lines))
+  pub fenced : StayFenced (answers terms lines)
+
+-- ---- the other statuses
+
+pub record HasUsage (named : Option Command) (sink : SinkCourse) : Type 0 where
+  pub none : named ≡ None
+  pub wrote : Wrote sink (codes "usage\n")
+
+pub record HasReadFault (source : SourceCourse) (sink : SinkCourse) : Type 0 where
+  pub failed : ReadFailed source
+  pub wrote : Wrote sink (codes "read fault\n")
+
+-- an input was read whole, and this is its first bad line
+pub record HasBadLine (named : Option Command) (source : SourceCourse) (sink : SinkCourse) : Type 0 where
+  pub command : Command
+  pub input : List ℕ
+  pub number : ℕ
+  pub kind : BadKind
+  pub names : named ≡ Some command
+  pub read : WasAll source.left source.left_now input
+  pub bad : Comes command input (Told (notice.BadLine number kind))
+  pub wrote : Wrote sink (bad_line_text number kind)
+
+-- a script was read whole, and its shape has more words than there may be
+pub record HasTooManyWords (named : Option Command) (source : SourceCourse) (sink : SinkCourse) : Type 0 where
+  pub input : List ℕ
+  pub plan : Plan
+  pub names : named ≡ Some command.Script
+  pub read : WasAll source.left source.left_now input
+  pub script : Means input plan
+  pub over : MOST_WORDS < shape_words plan.shape
+  pub wrote : Wrote sink (codes "too large " ++ decimal (shape_words plan.shape) ++ codes "\n")
+
+-- a command reads, and more bytes were given than an input may have
+pub record HasTooManyBytes (named : Option Command) (source : SourceCourse) (sink : SinkCourse) : Type 0 where
+  pub some : named ≢ None
+  pub gave : GaveMore source.left source.left_now
+  pub wrote : Wrote sink (codes "too large " ++ decimal 4194305 ++ codes "\n")
+
+abbrev pub IsTooLarge : Option Command → SourceCourse → SinkCourse → Type 0
+IsTooLarge named source sink = HasTooManyBytes named source sink ⊎ HasTooManyWords named source sink
+
+-- a script was read whole, and leaves the form that is run: its first line that does was told
+pub record IsNotBuilt (named : Option Command) (source : SourceCourse) (sink : SinkCourse) : Type 0 where
+  pub input : List ℕ
+  pub plan : Plan
   pub line : ℕ
-  pub read : WasAll left left' input
-  pub leaves : script_of input ≡ Err line
-  pub wrote : Appends held held' (codes "not built " ++ decimal line ++ codes "\n")
+  pub names : named ≡ Some command.Script
+  pub read : WasAll source.left source.left_now input
+  pub script : Means input plan
+  pub within : shape_words plan.shape ≤ MOST_WORDS
+  pub leaves : small_plan_of plan ≡ Err line
+  pub wrote : Wrote sink (codes "not built " ++ decimal line ++ codes "\n")
+
+-- the status of any input
+abbrev pub input_status : Command → List ℕ → ℕ
+input_status command input = if nat_lt LIMIT (length input) then 7 else status_of command input
+
+-- the input is within size and in the grammar of the command, and a script asks for no more words than there may be and has the form that is run
+abbrev pub IsAccepted : Command → List ℕ → Type 0
+IsAccepted command.Script input = (length input ≤ LIMIT) × ((plan : Plan) × (small : SmallPlan) × Means input plan × (shape_words plan.shape ≤ MOST_WORDS) × (small_plan_of plan ≡ Ok small))
+IsAccepted command.Audit input = (length input ≤ LIMIT) × ((lines : List OutLine) × (output_of input ≡ Ok lines))
+IsAccepted (command.Leases terms) input = (length input ≤ LIMIT) × ((lines : List LeaseLine) × (events_from 1 (text.lines_of input) ≡ Ok lines))
 
 abbrev pub IsStatus : ℕ → Type 0
-IsStatus result = (result ≡ 0) ⊎ ((result ≡ 2) ⊎ ((result ≡ 4) ⊎ ((result ≡ 5) ⊎ ((result ≡ 6) ⊎ ((result ≡ 7) ⊎ (result ≡ 8))))))
+IsStatus result = (result ≡ 0) ⊎ ((result ≡ 2) ⊎ ((result ≡ 3) ⊎ ((result ≡ 4) ⊎ ((result ≡ 5) ⊎ ((result ≡ 6) ⊎ ((result ≡ 7) ⊎ (result ≡ 8)))))))

@@ -1,7 +1,7 @@
 ghost use Rattle.std.specs.Prelude.{◌≡◌, ℕ, ◌+◌, ◌<◌, ◌≤◌, List, [], ◌∷◌, IfOk, length, drop, map, not, slice_index, true, ◌==◌};
 ghost use Rattle.std.specs.List.{prefix_len};
 ghost use Rattle.verb_words.specs.Words.{with_word, words_on};
-ghost use Rattle.fusee_top.specs.Form.{is_plain_call};
+ghost use Rattle.fusee_top.specs.Small.{is_plain_call};
 ghost use Rattle.fusee_top.specs.Records.{records_after, reply_in, text_in, value_in, word_of};
 
 use map_model::{Bytes, Call, Reply};

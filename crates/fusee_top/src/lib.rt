@@ -1,15 +1,19 @@
-//! The top call: reads a script, runs it, and writes its trace and history.
+//! The top call: reads a script and runs it, reads an output and audits it, or reads lease lines and
+//! answers them.
 #![tactic(auto)]
 
+mod audits;
 mod client;
 mod commands;
-pub mod laws;
-mod out_lines;
+mod leases;
+mod notices;
+mod options;
 mod reading;
 mod running;
 mod scripts;
 #[cfg(test)]
 mod tests;
+mod top_call;
 mod writing;
 
-pub use commands::offline;
+pub use top_call::offline;

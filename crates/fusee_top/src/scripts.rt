@@ -1,214 +1,213 @@
-ghost use Rattle.std.specs.Prelude.{◌≡◌, ◌+◌, ◌<◌, ◌≤◌, ◌^◌, ◌==◌, IfOk, length, map, true};
-ghost use Rattle.std.specs.List.{slice_split};
-ghost use Rattle.std.specs.Str.Parse.{digits_value};
-ghost use Rattle.fusee_top.specs.Form.{ArePlain, IsSmall, Plan, are_digits, call_of, calls_after, get_of, is_get, is_plain, is_put, number_of, put_of, script_after_shape, script_of, script_of_lines, shape_calls};
-ghost use Rattle.fusee_top.specs.Parsed.{Gathers, IsParsed};
-ghost use Rattle.fusee_top.specs.declared.scripts.FormFault.TheVariants.{NoMemory};
+ghost use Rattle.std.specs.Prelude.{◌≡◌, ◌+◌, ◌<◌, ◌≤◌, ◌^◌, IfOk, length};
+ghost use Rattle.script_text.specs.ScriptForm.{reading_of};
+ghost use Rattle.script_text.specs.ScriptRead.{plan_of};
+ghost use Rattle.script_text.specs.ShapeForm.{IsWithin};
+ghost use Rattle.script_text.specs.Shown.{are_visible, is_shown_as_is};
+ghost use Rattle.fusee_top.specs.Parsed.{Gathers, IsScript, IsSmallScript};
+ghost use Rattle.fusee_top.specs.Sizes.{shape_words};
+ghost use Rattle.fusee_top.specs.Small.{ArePlain, IsSmall, call_of, calls_after, is_get, is_plain, is_put, is_register, is_small_shape, small_lines, small_plan_of};
+ghost use Rattle.fusee_top.specs.declared.scripts.Unfit.TheVariants.{NoMemory};
 
-use crate::out_lines::is_shown_as_is;
 use map_model::{Bytes, Call};
+use region_view::words;
+use script_text::{Line, Script, ScriptFault, Shape, Text, parse};
 use std::alloc::{AllocError, AllocFailed, Global};
 use std::marker::Model;
 
-// How many calls a script may have, whatever its shape says.
+/// The most words that a script may ask for, 16 MiB.
+pub const MOST_WORDS: u64 = 2_097_152;
+
+// How many calls the client makes, whatever the shape says.
 const MOST_CALLS: u32 = 16;
 
 // The longest key and the longest value, in bytes.
 const LONGEST: usize = 8;
 
-/// What a script asks for: whether its client is registered, and the client's calls.
+/// What the one client does: whether it is registered, and its calls.
 #[derive(Debug, Drop)]
-pub struct Script {
+pub struct SmallScript {
     pub registers: bool,
     pub calls: Vec<Call>,
 }
 
-impl Model for Script {
-    ghost Value = { Plan };
+impl Model for SmallScript {
+    ghost use Rattle.fusee_top.specs.Small.{SmallPlan};
+
+    ghost Value = { SmallPlan };
 
     ghost view = { λ script. record { registers = script.registers; calls = script.calls.items } };
 }
 
-/// Why a text is no script.
+/// Why a script is not run.
 #[derive(Clone, Copy, Debug, PartialEq, Eq)]
-pub enum FormFault {
-    /// The first line that leaves the form, counted from 1.
+pub enum Unfit {
+    /// The first of its lines that leaves the form that is run, counted from 1.
     Leaves(u32),
     NoMemory,
 }
 
-impl From<AllocError> for FormFault {
-    ghost from_gives = { λ _ fault. fault ≡ NoMemory };
+impl From<AllocError> for Unfit {
+    ghost from_gives = { λ _ unfit. unfit ≡ NoMemory };
 
-    fn from(_error: AllocError) -> FormFault {
-        FormFault::NoMemory
+    fn from(_error: AllocError) -> Unfit {
+        Unfit::NoMemory
     }
 }
 
-impl<T: Drop> From<AllocFailed<T>> for FormFault {
-    ghost from_gives = { λ _ fault. fault ≡ NoMemory };
+impl<T: Drop> From<AllocFailed<T>> for Unfit {
+    ghost from_gives = { λ _ unfit. unfit ≡ NoMemory };
 
-    fn from(_error: AllocFailed<T>) -> FormFault {
-        FormFault::NoMemory
+    fn from(_error: AllocFailed<T>) -> Unfit {
+        Unfit::NoMemory
     }
 }
 
 /// Reads a script.
-pub fn parse(alloc: Global, text: &[u8]) -> Result<Script, FormFault>
-    ensures parsed { IsParsed result (script_of text.now) }
-    ensures small { IfOk result IsSmall }
+pub fn read_script(alloc: Global, text: &[u8]) -> Result<Script, ScriptFault>
+    requires { length text.now ≤ 4194304 }
+    ensures read { IsScript result (reading_of text.now) }
+    ensures within { IfOk result (λ script. IsWithin script.shape) }
 {
-    let lines = parts(alloc, text, b'\n')?;
-    read_script(alloc, &lines)
+    parse(alloc, text)
 }
 
-fn read_script(alloc: Global, lines: &[&[u8]]) -> Result<Script, FormFault>
-    ensures parsed { IsParsed result (script_of_lines (map (λ line. line.now) lines.now)) }
-    ensures small { IfOk result IsSmall }
+/// How many words a shape asks for.
+pub fn words_of(shape: &Shape) -> u64
+    requires { IsWithin shape.now }
+    ensures { result ≡ shape_words shape.now }
 {
-    let Some((shape, lines)) = lines.split_first() else {
-        return Err(FormFault::Leaves(1));
-    };
-    if lines.is_empty() {
-        return Err(FormFault::Leaves(1));
+    words(&region_view::Shape {
+        nodes: shape.nodes,
+        replicas: shape.replicas,
+        regions: shape.regions,
+        blocks: shape.blocks,
+        groups: shape.groups,
+        clients: shape.clients,
+        calls: shape.calls,
+    })
+}
+
+/// What the client does in the script, where the script has no other lines.
+#[tactic(auto, unfolding(crate::specs::Small::small_plan_of))]
+pub fn small_script_of(alloc: Global, script: &Script) -> Result<SmallScript, Unfit>
+    ensures small { IsSmallScript result (small_plan_of (plan_of script.now)) }
+    ensures plain { IfOk result IsSmall }
+{
+    if !is_small_shape(&script.shape) {
+        return Err(Unfit::Leaves(1));
     }
-    let Some(most) = shape_calls(shape) else {
-        return Err(FormFault::Leaves(1));
-    };
-    read_registered(alloc, most, lines)
+    small_lines(alloc, script.shape.calls.min(MOST_CALLS), &script.lines)
 }
 
-fn read_registered(alloc: Global, most: u32, lines: &[&[u8]]) -> Result<Script, FormFault>
-    ensures parsed { IsParsed result (script_after_shape most (map (λ line. line.now) lines.now)) }
-    ensures small { IfOk result IsSmall }
+fn is_small_shape(shape: &Shape) -> bool
+    ensures { result ≡ is_small_shape shape.now }
+{
+    if shape.nodes != 1 || shape.replicas != 1 || shape.regions != 1 {
+        return false;
+    }
+    if shape.blocks != 1 || shape.groups != 1 {
+        return false;
+    }
+    shape.clients == 1
+}
+
+fn small_lines(alloc: Global, room: u32, lines: &[Line]) -> Result<SmallScript, Unfit>
+    requires { room ≤ 16 }
+    ensures small { IsSmallScript result (small_lines room lines.now) }
+    ensures plain { IfOk result IsSmall }
 {
     let mut calls = Vec::new(alloc);
     let Some((line, lines)) = lines.split_first() else {
-        return Err(FormFault::Leaves(2));
+        let registers = false;
+        return Ok(SmallScript { registers, calls });
     };
-    if lines.is_empty() {
-        if line.is_empty() {
-            let registers = false;
-            return Ok(Script { registers, calls });
-        }
-        return Err(FormFault::Leaves(2));
+    if !is_register(line) {
+        return Err(Unfit::Leaves(2));
     }
-    if *line != b"register".as_slice() {
-        return Err(FormFault::Leaves(2));
-    }
-    read_calls(alloc, &mut calls, most.min(MOST_CALLS), 3, lines)?;
+    gather_calls(alloc, &mut calls, room, 3, lines)?;
     let registers = true;
-    Ok(Script { registers, calls })
+    Ok(SmallScript { registers, calls })
+}
+
+fn is_register(line: &Line) -> bool
+    ensures { result ≡ is_register line.now }
+{
+    matches!(line, Line::Register)
 }
 
 // Adds the calls of the lines from this number on, of which there may be so many.
-fn read_calls(
+fn gather_calls(
     alloc: Global,
     calls: &mut Vec<Call>,
     room: u32,
     number: u32,
-    lines: &[&[u8]],
-) -> Result<(), FormFault>
+    lines: &[Line],
+) -> Result<(), Unfit>
     requires { room + number < 2 ^ 32 }
-    ensures parsed { Gathers calls.new.items result
-        (calls_after calls.old.items room number (map (λ line. line.now) lines.now)) }
+    ensures gathered { Gathers calls.new.items result
+        (calls_after calls.old.items room number lines.now) }
     ensures few { length calls.new.items ≤ length calls.old.items + room }
     ensures plain { ArePlain calls.old.items → ArePlain calls.new.items }
 {
     let Some((line, lines)) = lines.split_first() else {
-        return Err(FormFault::Leaves(number));
+        return Ok(());
     };
-    if lines.is_empty() {
-        if line.is_empty() {
-            return Ok(());
-        }
-        return Err(FormFault::Leaves(number));
-    }
     if room == 0 {
-        return Err(FormFault::Leaves(number));
+        return Err(Unfit::Leaves(number));
     }
-    let Some(call) = read_call(alloc, line)? else {
-        return Err(FormFault::Leaves(number));
+    let Some(call) = call_of(alloc, line)? else {
+        return Err(Unfit::Leaves(number));
     };
     calls.push(call)?;
-    read_calls(alloc, calls, room - 1, number + 1, lines)
+    gather_calls(alloc, calls, room - 1, number + 1, lines)
 }
 
-// The call of a line, if it has the form of one.
-fn read_call(alloc: Global, line: &[u8]) -> Result<Option<Call>, AllocError>
+// The call of a line, if client 1 makes it and its key and its value are plain.
+fn call_of(alloc: Global, line: &Line) -> Result<Option<Call>, AllocError>
     ensures { IfOk result (λ call. call ≡ call_of line.now) }
 {
-    let words = parts(alloc, line, b' ')?;
-    match words.as_slice() {
-        [name, client, key] => read_get(alloc, name, client, key),
-        [name, client, key, value] => read_put(alloc, name, client, key, value),
+    match line {
+        Line::Put { client, key, value } => {
+            if !is_put(*client, key.as_slice(), value.as_slice()) {
+                return Ok(None);
+            }
+            let key = copy_of(alloc, key)?;
+            let value = copy_of(alloc, value)?;
+            Ok(Some(Call::Put { key, value }))
+        }
+        Line::Get { client, key } => {
+            if !is_get(*client, key.as_slice()) {
+                return Ok(None);
+            }
+            let key = copy_of(alloc, key)?;
+            Ok(Some(Call::Get { key }))
+        }
         _ => Ok(None),
     }
 }
 
-fn read_get(
-    alloc: Global,
-    name: &[u8],
-    client: &[u8],
-    key: &[u8],
-) -> Result<Option<Call>, AllocError>
-    ensures { IfOk result (λ call. call ≡ get_of name.now client.now key.now) }
+fn is_put(client: u32, key: &[u8], value: &[u8]) -> bool
+    ensures { result ≡ is_put client key.now value.now }
 {
-    if !is_get(name, client, key) {
-        return Ok(None);
-    }
-    let key = copy_of(alloc, key)?;
-    Ok(Some(Call::Get { key }))
-}
-
-fn is_get(name: &[u8], client: &[u8], key: &[u8]) -> bool
-    ensures { result ≡ is_get name.now client.now key.now }
-{
-    if name != b"get".as_slice() {
-        return false;
-    }
-    if client != b"1".as_slice() {
-        return false;
-    }
-    is_plain(key)
-}
-
-fn read_put(
-    alloc: Global,
-    name: &[u8],
-    client: &[u8],
-    key: &[u8],
-    value: &[u8],
-) -> Result<Option<Call>, AllocError>
-    ensures { IfOk result (λ call. call ≡ put_of name.now client.now key.now value.now) }
-{
-    if !is_put(name, client, key, value) {
-        return Ok(None);
-    }
-    let key = copy_of(alloc, key)?;
-    let value = copy_of(alloc, value)?;
-    Ok(Some(Call::Put { key, value }))
-}
-
-fn is_put(name: &[u8], client: &[u8], key: &[u8], value: &[u8]) -> bool
-    ensures { result ≡ is_put name.now client.now key.now value.now }
-{
-    if name != b"put".as_slice() {
-        return false;
-    }
-    if client != b"1".as_slice() {
-        return false;
-    }
-    if !is_plain(key) {
+    if !is_get(client, key) {
         return false;
     }
     is_plain(value)
 }
 
-fn copy_of(alloc: Global, bytes: &[u8]) -> Result<Bytes, AllocError>
-    ensures { IfOk result (λ copy. copy ≡ bytes.now) }
+fn is_get(client: u32, key: &[u8]) -> bool
+    ensures { result ≡ is_get client key.now }
 {
-    Ok(Bytes::of_vec(bytes.to_vec(alloc)?))
+    if client != 1 {
+        return false;
+    }
+    is_plain(key)
+}
+
+fn copy_of(alloc: Global, text: &Text) -> Result<Bytes, AllocError>
+    ensures { IfOk result (λ copy. copy ≡ text.now) }
+{
+    Ok(Bytes::of_vec(text.as_slice().to_vec(alloc)?))
 }
 
 fn is_plain(bytes: &[u8]) -> bool
@@ -220,56 +219,19 @@ fn is_plain(bytes: &[u8]) -> bool
     is_shown_as_is(bytes)
 }
 
-// How many calls a shape line allows, if the line has the form of one.
-fn shape_calls(line: &[u8]) -> Option<u32>
-    ensures { result ≡ shape_calls line.now }
+// Whether bytes are shown as they are: there is one, all are visible, and they do not begin with
+// `x:`.
+fn is_shown_as_is(bytes: &[u8]) -> bool
+    ensures { result ≡ is_shown_as_is bytes.now }
 {
-    let digits = line.strip_prefix(b"shape 1 1 1 1 1 1 ")?;
-    let calls = number_of(digits)?;
-    if calls == 0 || calls > 16_777_215 {
-        return None;
+    if bytes.is_empty() || bytes.starts_with(b"x:") {
+        return false;
     }
-    Some(calls)
+    are_visible(bytes)
 }
 
-// The number of 1 to 8 digits.
-fn number_of(digits: &[u8]) -> Option<u32>
-    ensures { result ≡ number_of digits.now }
+fn are_visible(bytes: &[u8]) -> bool
+    ensures { result ≡ are_visible bytes.now }
 {
-    if digits.is_empty() {
-        return None;
-    }
-    if digits.len() > 8 {
-        return None;
-    }
-    if !are_digits(digits) {
-        return None;
-    }
-    Some(value_of(digits))
-}
-
-fn value_of(digits: &[u8]) -> u32
-    requires digits { are_digits digits.now ≡ true }
-    requires few { length digits.now ≤ 8 }
-    ensures { result ≡ digits_value 10 digits.now }
-{
-    let mut value = 0;
-    for digit in digits {
-        value = value * 10 + u32::from(digit - b'0');
-    }
-    value
-}
-
-fn are_digits(bytes: &[u8]) -> bool
-    ensures { result ≡ are_digits bytes.now }
-{
-    bytes.iter().all(|byte| byte.is_ascii_digit())
-}
-
-// What a byte parts, the last part included.
-fn parts(alloc: Global, bytes: &[u8], by: u8) -> Result<Vec<&[u8]>, AllocError>
-    ensures { IfOk result (λ parts. map (λ part. part.now) parts.items
-        ≡ slice_split (λ byte. byte == by) bytes.now) }
-{
-    bytes.split(|byte| *byte == by).collect(alloc)
+    bytes.iter().all(|byte| byte.is_ascii_graphic())
 }

@@ -1,11 +1,11 @@
 ghost use Rattle.std.specs.Prelude.{◌≡◌, ℕ, ◌≤◌};
 ghost use Rattle.outside.specs.Faults.{IsSteady};
+ghost use Rattle.script_text.specs.OutputText.{line_text, text_of};
 ghost use Rattle.fusee_top.specs.declared.writing.Unwritten.TheVariants.{NoMemory};
-ghost use Rattle.fusee_top.specs.Text.{line_text, text_of};
 ghost use Rattle.fusee_top.specs.Written.{Writes};
 
-use crate::out_lines::{OutLine, push_line};
 use outside::{Sink, Took};
+use script_text::{OutLine, line_text};
 use std::alloc::{AllocError, Global};
 
 /// Why a text was not written to its end.
@@ -32,7 +32,7 @@ pub fn write_line<K: Sink>(alloc: Global, line: &OutLine, sink: &mut K) -> Resul
     ensures steady { IsSteady K.cannot_fail K.faults sink.old sink.new }
 {
     let mut text = Vec::new(alloc);
-    push_line(&mut text, line)?;
+    line_text(alloc, line, &mut text)?;
     write_all(&text, sink)
 }
 

@@ -1,5 +1,5 @@
 use Rattle.std.proofs.Common.{suc, take, drop}
-use Rattle.fusee_top.specs.Text.{line_text, text_of}
+use Rattle.script_text.specs.OutputText.{line_text, text_of}
 use Rattle.fusee_top.proofs.ListLemmas.{flat_map-cut}
 use Rattle.fusee_top.proofs.WrittenLemmas.{stops_then}
 use Rattle.fusee_top.proofs.writing.write_lines.Goals as goal

@@ -1,7 +1,7 @@
 use Rattle.std.proofs.Common.{◌≤◌, take}
 use Rattle.std.specs.Io.KnownBytes.{Appends}
 use Rattle.outside.specs.Faults.{IsSteady}
-use Rattle.fusee_top.specs.Text.{text_of}
+use Rattle.script_text.specs.OutputText.{text_of}
 use Rattle.fusee_top.proofs.writing.write_lines.Given as goal
 
 abbrev pub invariant-loop-line : goal.invariant-loop-line

@@ -1,0 +1,9 @@
+use Rattle.std.proofs.lemmas.Result.{IfOk-weaker}
+use Rattle.fusee_top.proofs.ReadLemmas.{IsScript-parsed}
+use Rattle.fusee_top.proofs.scripts.read_script.Goals as goal
+
+pub returns-clause-read : goal.returns-clause-read
+returns-clause-read c = IsScript-parsed c.parse.result c.args.text.now c.parse.ensures.parsed
+
+pub returns-clause-within : goal.returns-clause-within
+returns-clause-within c = IfOk-weaker c.parse.result _ _ (λ script sound. sound.within) c.parse.ensures.sound
