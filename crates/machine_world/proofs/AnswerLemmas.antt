@@ -1,5 +1,5 @@
 -- What a client's verb is answered, and what it leaves of the master's words.
-use Rattle.std.proofs.Common.{◌≡◌, ◌≢◌, ℕ, ◌+◌, ◌<◌, ◌≤◌, ◌==◌, ◌⊎◌, inl, inr, Bool, true, false, List, length, Option, Some, None, refl, sym, ◌∙◌, ap, subst, arith}
+use Rattle.std.proofs.Common.{◌≡◌, ◌≢◌, ℕ, ◌<◌, ◌≤◌, ◌==◌, inl, inr, Bool, true, false, List, length, None, refl, ◌∙◌, ap, arith}
 use Rattle.std.specs.Prelude.{if◌then◌else◌, not, ◌&&◌}
 use Rattle.machine.specs.Places.{IsSpared, SparesMaster}
 use Rattle.machine.proofs.SparedLemmas.{next-spares}
@@ -8,7 +8,7 @@ use Rattle.machine_world.specs.Refusals.{refusal}
 use Rattle.machine_world.specs.Runs.{verbs_at}
 use Rattle.machine_world.specs.Standing.{StandsWell}
 use Rattle.machine_world.specs.World.{World, client_at}
-use Rattle.machine_world.specs.declared.events.Event.TheVariants.{Late, Step}
+use Rattle.machine_world.specs.declared.events.Event.TheVariants.{Step}
 use Rattle.machine_world.proofs.EventLemmas.{verb-occurred, words_after-others}
 use Rattle.verb_words.proofs.WordsLemmas.{with_word-word_at}
 use Rattle.verb_words.specs.Applied.{is_refused, words_after}
@@ -18,7 +18,7 @@ use Rattle.verb_words.specs.declared.verbs.Verb.{Verb}
 use Rattle.verb_words.specs.declared.verbs.Verb.TheVariants.{Add, Read, Swap, Write}
 use Rattle.verb_words.specs.Verb as verbs
 use Rattle.verb_words.specs.Verb.{place_of, word_after}
-use Rattle.verb_words.specs.Words.{is_lost, status_of, with_word, word_at}
+use Rattle.verb_words.specs.Words.{is_lost, with_word, word_at}
 
 -- a client's verb that a live node takes, or a lost one's words take late
 pub verb-answered : (world : World) (client : ℕ) → refusal world (Step client) ≡ None

@@ -3,7 +3,7 @@
 ghost use Rattle.std.specs.Prelude.{◌≡◌, ◌≢◌, ◌+◌, ◌<◌, ◌≤◌, ◌==◌, ℕ, Bool, true, if◌then◌else◌, List, [], ◌∷◌, ◌++◌, length, map, None, Some};
 ghost use Rattle.machine.specs.Client.{after, told};
 ghost use Rattle.machine_world.specs.Events.{answer_of, answered, chooses, fills, happens, invokes, loses, moments_of, acts, registers, stops, verb_event, verb_of, verb_of_task, works};
-ghost use Rattle.machine_world.specs.Examples.{first_put, first_put_division, first_put_history, first_put_trace, one_of_each};
+ghost use Rattle.machine_world.specs.Examples.{crossed_puts, crossed_puts_history, lost_primary, lost_primary_history, three_nodes, first_put, first_put_division, first_put_history, first_put_trace, one_of_each, stopped_put, stopped_put_division, stopped_put_history, two_clients};
 ghost use Rattle.machine_world.specs.Ledger.{history_of};
 ghost use Rattle.machine_world.specs.Readings.{division_of};
 ghost use Rattle.machine_world.specs.Refusals.{refusal};
@@ -145,4 +145,21 @@ pub fn the_first_put_as_a_run()
     ensures trace { (run one_of_each first_put).trace ≡ first_put_trace }
     ensures history { history_of (run one_of_each first_put) ≡ first_put_history }
     ensures division { division_of (run one_of_each first_put) ≡ first_put_division }
+{}
+
+/// A put whose client stops before its last swap, and the recovery of that client: another client's put
+/// at the same key waits for it and is beaten by it.
+pub fn a_stopped_put_as_a_run()
+    ensures history { history_of (run two_clients stopped_put) ≡ stopped_put_history }
+    ensures division { division_of (run two_clients stopped_put) ≡ stopped_put_division }
+{}
+
+/// Two puts whose swaps fall between one another.
+pub fn crossed_puts_as_a_run()
+    ensures { history_of (run two_clients crossed_puts) ≡ crossed_puts_history }
+{}
+
+/// A put whose primary is lost.
+pub fn a_lost_primary_as_a_run()
+    ensures { history_of (run three_nodes lost_primary) ≡ lost_primary_history }
 {}
