@@ -2,6 +2,7 @@
 
 ghost use Rattle.std.specs.Prelude.{◌≡◌, ◌≢◌, ◌+◌, ◌<◌, ◌≤◌, ◌==◌, ℕ, Bool, true, if◌then◌else◌, List, [], ◌∷◌, ◌++◌, length, map, None, Some};
 ghost use Rattle.machine.specs.Client.{after, told};
+ghost use Rattle.machine_world.specs.Claims.{IsHistoryLinear};
 ghost use Rattle.machine_world.specs.Events.{answer_of, answered, chooses, fills, happens, invokes, loses, moments_of, acts, registers, stops, verb_event, verb_of, verb_of_task, works};
 ghost use Rattle.machine_world.specs.Examples.{crossed_puts, crossed_puts_history, lost_primary, lost_primary_history, three_nodes, first_put, first_put_division, first_put_history, first_put_trace, one_of_each, stopped_put, stopped_put_division, stopped_put_history, two_clients};
 ghost use Rattle.machine_world.specs.Ledger.{history_of};
@@ -139,11 +140,12 @@ pub fn verbs_find_their_words()
         → HasPlace world.nodes (place_of verb) }
 {}
 
-/// The first put of the only client of a small pool: its run returns, its history is this one call, and
-/// one block is owned, of whose 64 objects one is present.
+/// The first put of the only client of a small pool: its run returns, its history is this one call and a
+/// linearization of its trace, and one block is owned, of whose 64 objects one is present.
 pub fn the_first_put_as_a_run()
     ensures trace { (run one_of_each first_put).trace ≡ first_put_trace }
     ensures history { history_of (run one_of_each first_put) ≡ first_put_history }
+    ensures linear { IsHistoryLinear (run one_of_each first_put) }
     ensures division { division_of (run one_of_each first_put) ≡ first_put_division }
 {}
 
