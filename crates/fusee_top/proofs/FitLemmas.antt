@@ -18,7 +18,7 @@ use Rattle.trace_audit.proofs.PlaceLemmas.{get-last, get-left}
 use Rattle.trace_audit.proofs.VerdictLemmas.{linear_exactly}
 use Rattle.fusee_top.specs.Run.{call_lines, client_lines, entries_from, entries_of, entry_line, history_lines, lines_of, shown_call, shown_reply}
 use Rattle.fusee_top.specs.Small.{SmallPlan}
-use Rattle.fusee_top.proofs.ToldLemmas.{IsLinear-lines_of, history_of-lines_of}
+use Rattle.fusee_top.proofs.ToldLemmas.{IsLinear-lines_of}
 
 -- client 1 made so many calls, and each returned
 record Quiet (trace : List Moment) (count : ℕ) : Type 0 where
@@ -36,7 +36,7 @@ quiet_first = record {
 }
 
 may_call : (trace : List Moment) (count : ℕ) → Quiet trace count → MayCall trace 1 (count + 1)
-may_call trace count quiet = ((λ any open. open.1 (quiet.called any open.0)), quiet.runs, quiet.next)
+may_call trace count quiet = ((λ any going. going.1 (quiet.called any going.0)), quiet.runs, quiet.next)
 
 same_number : (number other : ℕ) (reply reply' : Reply) → Returned 1 number reply ≡ Returned 1 other reply' → number ≡ other
 same_number number other reply reply' is = cc
@@ -74,7 +74,7 @@ may_return trace count call quiet =
 
 -- once it returned
 module _ (trace : List Moment) (count : ℕ) (call : Call) (reply : Reply) (quiet : Quiet trace count) where
-  open_trace : List Moment
+  abbrev open_trace : List Moment
   open_trace = trace ++ Invoked 1 (count + 1) call ∷ []
 
   last_returns : HasReturned (open_trace ++ Returned 1 (count + 1) reply ∷ []) 1 (count + 1)
@@ -122,7 +122,7 @@ module _ (trace : List Moment) (count : ℕ) (call : Call) (reply : Reply) (quie
   quiet_then = record { called = called_then; returned = returned_then; runs = runs_then; next = inl (count + 1, latest_then, refl) }
 
 -- lines that fit behind a trace, one after the other
-FitsFrom : List Moment → List OutLine → Type 0
+abbrev FitsFrom : List Moment → List OutLine → Type 0
 FitsFrom past [] = Unit {0}
 FitsFrom past (out ∷ lines) = FitsAfter past out × FitsFrom (past ++ audit.moments_of out) lines
 
@@ -143,12 +143,12 @@ history_fits past entries = (tt, entries_fit (past ++ []) entries)
 
 calls_fit : (past : List Moment) (map : Map) (count : ℕ) (calls : List Call) (entries : List Entry) → Quiet past count
     → FitsFrom past (flat_map call_lines (entries_from map (count + 1) calls) ++ (history_lines entries ++ line.End ∷ []))
-calls_fit past map count [] entries quiet = history_fits past entries
-calls_fit past map count (call ∷ calls) entries quiet =
+calls_fit past there count [] entries quiet = history_fits past entries
+calls_fit past there count (call ∷ calls) entries quiet =
     let called : Call = audit.call_of (shown_call call) in
-    let reply : Reply = audit.reply_of (shown_reply (reply_of map call)) in
-    (may_call past count quiet, may_return past count called quiet,
-    calls_fit ((past ++ Invoked 1 (count + 1) called ∷ []) ++ Returned 1 (count + 1) reply ∷ []) (after map call (reply_of map call)) (count + 1) calls entries (quiet_then past count called reply quiet))
+    let reply : Reply = audit.reply_of (shown_reply (reply_of there call)) in
+    (may_call past count quiet, (may_return past count called quiet,
+    calls_fit ((past ++ Invoked 1 (count + 1) called ∷ []) ++ Returned 1 (count + 1) reply ∷ []) (after there call (reply_of there call)) (count + 1) calls entries (quiet_then past count called reply quiet)))
 
 registered_fit : (registers : Bool) (lines : List OutLine) → FitsFrom [] lines → FitsFrom [] (client_lines registers ++ lines)
 registered_fit true lines fits = (tt, fits)
@@ -165,5 +165,5 @@ Fits-lines_of plan =
     λ at out is. fits_at [] (lines_of plan) at out (rw grouped fits) is
 
 -- the verdict on the lines of a run is linear
-pub IsVerdict-lines_of : (plan : SmallPlan) → IsVerdict (lines_of plan) (Linear (length (entries_of plan.calls)))
-IsVerdict-lines_of plan = (linear_exactly (lines_of plan) (length (entries_of plan.calls))).1 (Fits-lines_of plan, IsLinear-lines_of plan, sym (ap length (history_of-lines_of plan)))
+pub IsVerdict-lines_of : (plan : SmallPlan) → IsVerdict (lines_of plan) (Linear (length (audit.history_of (lines_of plan))))
+IsVerdict-lines_of plan = (linear_exactly (lines_of plan) (length (audit.history_of (lines_of plan)))).1 (Fits-lines_of plan, IsLinear-lines_of plan, refl)
