@@ -30,14 +30,14 @@ get_or-any (x ∷ lines) (suc i) d e within = get_or-any lines i d e (omega arit
 pub run_after-next : (run before now : Run) (lines : List LeaseLine) (i : ℕ) (d : LeaseLine) → i < length lines → before ≡ run_along run (take i lines)
     → now ≡ run_after before (get_or lines i d) → now ≡ run_along run (take (i + 1) lines)
 run_after-next run before now lines i d within known is =
-    is ∙ ap (λ r. run_after r (get_or lines i d)) known ∙ sym (run_along-more run lines i (get_or lines i d) within (get_or-any lines i d (get_or lines i d) within))
+    is ∙ ap (λ r. run_after r (get_or lines i d)) known ∙ sym (run_along-more run lines i (get_or lines i d) d within refl)
 
 -- the text of one answer more
 text_of-more : (run : Run) (lines : List LeaseLine) (i : ℕ) (line : LeaseLine) → i < length lines → line ≡ get_or lines i line
     → text_of (answers_along run (take (i + 1) lines)) ≡ text_of (answers_along run (take i lines)) ++ answer_text (answer_of (run_along run (take i lines)) line)
 text_of-more run lines i line within is =
     let here : LeaseAnswer = answer_of (run_along run (take i lines)) line in
-    ap text_of (answers_along-more run lines i line within is)
+    ap text_of (answers_along-more run lines i line line within is)
     ∙ flat_map-append answer_text (answers_along run (take i lines)) (here ∷ [])
     ∙ ap (λ l. text_of (answers_along run (take i lines)) ++ l) (append-nil (answer_text here))
 

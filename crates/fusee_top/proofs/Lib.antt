@@ -1,4 +1,5 @@
 pub mod CommandLemmas
+pub mod FitLemmas
 pub mod LeaseLemmas
 pub mod ListLemmas
 pub mod OfflineLemmas

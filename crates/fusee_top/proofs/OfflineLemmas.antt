@@ -34,6 +34,7 @@ use Rattle.fusee_top.specs.declared.notices.Notice.{Notice}
 use Rattle.fusee_top.specs.declared.notices.Notice.TheVariants as notice
 use Rattle.fusee_top.specs.declared.reading.TheConstants.{LIMIT}
 use Rattle.fusee_top.specs.declared.scripts.TheConstants.{MOST_WORDS}
+use Rattle.fusee_top.proofs.FitLemmas.{IsVerdict-lines_of}
 use Rattle.fusee_top.proofs.ToldLemmas.{IsLinear-lines_of}
 
 -- ---- what was met, where the answer is neither 5 nor 6
@@ -85,6 +86,7 @@ sized_ran source sink input plan false (Ok small) ending was read large_is small
   run = refl;
   wrote = rw is at wrote;
   linear = IsLinear-lines_of small;
+  verdict = IsVerdict-lines_of small;
 }
 sized_ran source sink input plan false (Err line) ending was read large_is small_is is status wrote = let eight = ap ending_status is in absurd (omega arith)
 

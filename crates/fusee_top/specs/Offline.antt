@@ -19,6 +19,7 @@ use Rattle.text_lines.specs.Lines as text
 use Rattle.trace_audit.specs.Told.{history_of, trace_of}
 use Rattle.trace_audit.specs.Verdicts.{IsVerdict}
 use Rattle.trace_audit.specs.declared.verdicts.Verdict.{Verdict}
+use Rattle.trace_audit.specs.declared.verdicts.Verdict.TheVariants.{Linear}
 use Rattle.fusee_top.specs.Course.{Ends, SinkCourse, SourceCourse, ReadFailed, Starves, Wrote}
 use Rattle.fusee_top.specs.Endings.{Comes, Ending, Told, ending_status, ending_text, status_of}
 use Rattle.fusee_top.specs.Input.{GaveMore, WasAll}
@@ -63,7 +64,7 @@ Answers named source sink result =
 
 -- ---- status 0
 
--- a script was read whole and run, and its lines were written: the history in them is a linearization of the trace in them
+-- a script was read whole and run, and its lines were written: the history in them is a linearization of the trace in them, and an audit of them says so
 pub record RanScript (source : SourceCourse) (sink : SinkCourse) : Type 0 where
   pub input : List ℕ
   pub plan : Plan
@@ -76,6 +77,7 @@ pub record RanScript (source : SourceCourse) (sink : SinkCourse) : Type 0 where
   pub run : lines ≡ lines_of small
   pub wrote : Wrote sink (text_of lines)
   pub linear : IsLinear (trace_of lines) (history_of lines)
+  pub verdict : IsVerdict lines (Linear (length (history_of lines)))
 
 -- an output was read whole, and the verdict on it was written
 pub record RanAudit (source : SourceCourse) (sink : SinkCourse) : Type 0 where

@@ -19,7 +19,8 @@ pub fn audit_text<K: Sink>(alloc: Global, text: &[u8], sink: &mut K) -> u8
     requires { length text.now ≤ 4194304 }
     ensures ends { Starves (sink_course K.held K.faults sink.old sink.new) result
         ⊎ ((ending : Ending) × IsOutputEnding (output_of text.now) ending
-        × Ends (sink_course K.held K.faults sink.old sink.new) (ending_text ending) (ending_status ending) result) }
+        × Ends (sink_course K.held K.faults sink.old sink.new)
+        (ending_text ending) (ending_status ending) result) }
     ensures steady { IsSteady K.cannot_fail K.faults sink.old sink.new }
 {
     match read_output(alloc, text) {
@@ -45,7 +46,8 @@ fn tell_verdict<K: Sink>(alloc: Global, lines: &[OutLine], sink: &mut K) -> u8
     requires { length lines.now + 1 < 2 ^ 32 }
     ensures ends { Starves (sink_course K.held K.faults sink.old sink.new) result
         ⊎ ((verdict : Verdict) × IsVerdict lines.now verdict
-        × Ends (sink_course K.held K.faults sink.old sink.new) (verdict_text verdict) 0 result) }
+        × Ends (sink_course K.held K.faults sink.old sink.new)
+        (verdict_text verdict) 0 result) }
     ensures steady { IsSteady K.cannot_fail K.faults sink.old sink.new }
 {
     let Ok(verdict) = audit(alloc, lines) else {

@@ -77,7 +77,8 @@ pub fn carry_out<K: Sink>(alloc: Global, command: Command, text: &[u8], sink: &m
     requires { length text.now ≤ 4194304 }
     ensures ends { Starves (sink_course K.held K.faults sink.old sink.new) result
         ⊎ ((ending : Ending) × Comes command text.now ending
-        × Ends (sink_course K.held K.faults sink.old sink.new) (ending_text ending) (ending_status ending) result) }
+        × Ends (sink_course K.held K.faults sink.old sink.new)
+        (ending_text ending) (ending_status ending) result) }
     ensures steady { IsSteady K.cannot_fail K.faults sink.old sink.new }
 {
     match command {

@@ -19,7 +19,8 @@ use std::alloc::Global;
 pub fn run_leases<K: Sink>(alloc: Global, terms: Terms, text: &[u8], sink: &mut K) -> u8
     requires { length text.now ≤ 4194304 }
     ensures ends { Concludes (sink_course K.held K.faults sink.old sink.new)
-        (ending_text (leases_ending terms text.now)) (ending_status (leases_ending terms text.now)) result }
+        (ending_text (leases_ending terms text.now))
+        (ending_status (leases_ending terms text.now)) result }
     ensures steady { IsSteady K.cannot_fail K.faults sink.old sink.new }
 {
     match parse_leases(alloc, text) {

@@ -22,7 +22,8 @@ use std::alloc::{AllocError, Global};
 pub fn run_script<K: Sink>(alloc: Global, text: &[u8], sink: &mut K) -> u8
     requires { length text.now ≤ 4194304 }
     ensures ends { Concludes (sink_course K.held K.faults sink.old sink.new)
-        (ending_text (script_ending text.now)) (ending_status (script_ending text.now)) result }
+        (ending_text (script_ending text.now))
+        (ending_status (script_ending text.now)) result }
     ensures steady { IsSteady K.cannot_fail K.faults sink.old sink.new }
 {
     match read_script(alloc, text) {
@@ -38,7 +39,8 @@ pub fn run_script<K: Sink>(alloc: Global, text: &[u8], sink: &mut K) -> u8
 fn run_sized<K: Sink>(alloc: Global, script: &Script, sink: &mut K) -> u8
     requires { IsWithin script.now.shape }
     ensures ends { Concludes (sink_course K.held K.faults sink.old sink.new)
-        (ending_text (sized_ending (plan_of script.now))) (ending_status (sized_ending (plan_of script.now))) result }
+        (ending_text (sized_ending (plan_of script.now)))
+        (ending_status (sized_ending (plan_of script.now))) result }
     ensures steady { IsSteady K.cannot_fail K.faults sink.old sink.new }
 {
     let count = words_of(&script.shape);

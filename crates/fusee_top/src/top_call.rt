@@ -18,10 +18,10 @@ use std::alloc::Global;
 /// Carries out the command that the words name, over a source and a sink, and answers the status.
 ///
 /// `script` reads a script to its end, runs it, and writes its trace and its history. `audit` reads
-/// such an output to its end, and tells whether its last history is a history of one map. `leases
-/// --length L --error E` reads lease lines to their end, and answers each. A status whose text could
-/// not be written gives way to 5 where a write failed, and to 6 where memory was wanting; of that
-/// text the sink then holds a front.
+/// such an output to its end, and tells whether its last history is a history of one map. `leases`,
+/// with the options `--length` and `--error`, reads lease lines to their end, and answers each. A
+/// status whose text could not be written gives way to 5 where a write failed, and to 6 where memory
+/// was wanting; of that text the sink then holds a front.
 pub fn offline<S: Source, K: Sink>(
     alloc: Global,
     words: &[String],
@@ -30,42 +30,57 @@ pub fn offline<S: Source, K: Sink>(
 ) -> u8
     // 0: the source was read to its end, and the sink grew by the text of the command.
     ensures script { result ≡ 0 → command_of (map string_bytes words.now) ≡ Some command.Script
-        → RanScript (source_course S.left S.faults source.old source.new) (sink_course K.held K.faults sink.old sink.new) }
+        → RanScript (source_course S.left S.faults source.old source.new)
+        (sink_course K.held K.faults sink.old sink.new) }
     ensures audit { result ≡ 0 → command_of (map string_bytes words.now) ≡ Some command.Audit
-        → RanAudit (source_course S.left S.faults source.old source.new) (sink_course K.held K.faults sink.old sink.new) }
-    ensures leases { result ≡ 0 → (terms : Agreed) → command_of (map string_bytes words.now) ≡ Some (command.Leases terms)
-        → RanLeases terms (source_course S.left S.faults source.old source.new) (sink_course K.held K.faults sink.old sink.new) }
+        → RanAudit (source_course S.left S.faults source.old source.new)
+        (sink_course K.held K.faults sink.old sink.new) }
+    ensures leases { result ≡ 0 → (terms : Agreed)
+        → command_of (map string_bytes words.now) ≡ Some (command.Leases terms)
+        → RanLeases terms (source_course S.left S.faults source.old source.new)
+        (sink_course K.held K.faults sink.old sink.new) }
     // 2: exactly where the words are no command.
-    ensures usage { result ≡ 2 → HasUsage (command_of (map string_bytes words.now)) (sink_course K.held K.faults sink.old sink.new) }
+    ensures usage { result ≡ 2 → HasUsage (command_of (map string_bytes words.now))
+        (sink_course K.held K.faults sink.old sink.new) }
     ensures only_usage { command_of (map string_bytes words.now) ≡ None → EndsIn 2 result }
-    // 3: exactly where the input, read to its end and within size, has a bad line; the text names the first.
+    // 3: exactly where the input, read to its end and within size, has a bad line; the text names
+    // the first.
     ensures bad_line { result ≡ 3 → HasBadLine (command_of (map string_bytes words.now))
-        (source_course S.left S.faults source.old source.new) (sink_course K.held K.faults sink.old sink.new) }
+        (source_course S.left S.faults source.old source.new)
+        (sink_course K.held K.faults sink.old sink.new) }
     // 4: only where a read failed.
     ensures read_fault { result ≡ 4 → HasReadFault
-        (source_course S.left S.faults source.old source.new) (sink_course K.held K.faults sink.old sink.new) }
+        (source_course S.left S.faults source.old source.new)
+        (sink_course K.held K.faults sink.old sink.new) }
     // 5: only where a write failed.
     ensures write_fault { result ≡ 5 → WriteFailed (sink_course K.held K.faults sink.old sink.new) }
     // 7: exactly where more bytes were given than an input may have, and no read failed before, or
     // the script asks for more words than there may be.
     ensures too_large { result ≡ 7 → IsTooLarge (command_of (map string_bytes words.now))
-        (source_course S.left S.faults source.old source.new) (sink_course K.held K.faults sink.old sink.new) }
-    // 8: exactly where the script leaves the form that is run; the text names the first line that does.
+        (source_course S.left S.faults source.old source.new)
+        (sink_course K.held K.faults sink.old sink.new) }
+    // 8: exactly where the script leaves the form that is run; the text names the first line that
+    // does.
     ensures not_built { result ≡ 8 → IsNotBuilt (command_of (map string_bytes words.now))
-        (source_course S.left S.faults source.old source.new) (sink_course K.held K.faults sink.old sink.new) }
+        (source_course S.left S.faults source.old source.new)
+        (sink_course K.held K.faults sink.old sink.new) }
     // Where no read failed, the input alone decides among 0, 3, 7 and 8.
-    ensures decided { (command : Command) (input : List ℕ) → command_of (map string_bytes words.now) ≡ Some command
+    ensures decided { (command : Command) (input : List ℕ)
+        → command_of (map string_bytes words.now) ≡ Some command
         → S.left source.old ≡ Some input → ¬ Rose (S.faults source.old) (S.faults source.new)
         → EndsIn (input_status command input) result }
     // An input that is accepted is carried out, where no end fails and memory is there.
-    ensures complete { (command : Command) (input : List ℕ) → command_of (map string_bytes words.now) ≡ Some command
+    ensures complete { (command : Command) (input : List ℕ)
+        → command_of (map string_bytes words.now) ≡ Some command
         → S.left source.old ≡ Some input → IsAccepted command input
-        → ¬ Rose (S.faults source.old) (S.faults source.new) → ¬ Rose (K.faults sink.old) (K.faults sink.new)
+        → ¬ Rose (S.faults source.old) (S.faults source.new)
+        → ¬ Rose (K.faults sink.old) (K.faults sink.new)
         → (result ≡ 0) ⊎ (result ≡ 6) }
     ensures numbers { IsStatus result }
     // What the sink holds, whatever the status is.
     ensures answer { Answers (command_of (map string_bytes words.now))
-        (source_course S.left S.faults source.old source.new) (sink_course K.held K.faults sink.old sink.new) result }
+        (source_course S.left S.faults source.old source.new)
+        (sink_course K.held K.faults sink.old sink.new) result }
     // Over ends that can't fail no count rises.
     ensures sure_source { S.cannot_fail source.old
         → ¬ Rose (S.faults source.old) (S.faults source.new) }
@@ -77,7 +92,8 @@ pub fn offline<S: Source, K: Sink>(
 
 fn conduct<S: Source, K: Sink>(alloc: Global, words: &[String], source: &mut S, sink: &mut K) -> u8
     ensures answer { Answers (command_of (map string_bytes words.now))
-        (source_course S.left S.faults source.old source.new) (sink_course K.held K.faults sink.old sink.new) result }
+        (source_course S.left S.faults source.old source.new)
+        (sink_course K.held K.faults sink.old sink.new) result }
     ensures steady_source { IsSteady S.cannot_fail S.faults source.old source.new }
     ensures steady_sink { IsSteady K.cannot_fail K.faults sink.old sink.new }
 {
