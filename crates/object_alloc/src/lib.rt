@@ -1,0 +1,9 @@
+//! The objects of a client: how it gains blocks, chooses objects in them, and marks an object as
+//! taken or as given back.
+#![tactic(auto)]
+
+mod bits;
+mod places;
+
+pub use bits::{BitChange, change};
+pub use machine::bit_change::Changed;
