@@ -3,6 +3,7 @@
 #![tactic(auto)]
 
 mod bits;
+mod blocks;
 mod places;
 
 pub use bits::{BitChange, change};
