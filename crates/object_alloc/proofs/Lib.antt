@@ -1,3 +1,4 @@
 pub mod BitLemmas
+pub mod ChooserLemmas
 pub mod PlaceLemmas
 pub mod ViewLemmas

@@ -1,3 +1,4 @@
 pub mod Bits
+pub mod Choosers
 pub mod Classes
 pub mod Parts

@@ -4,7 +4,9 @@
 
 mod bits;
 mod blocks;
+mod choosers;
 mod places;
+mod steps;
 
 pub use bits::{BitChange, change};
 pub use machine::bit_change::Changed;

@@ -1,0 +1,9 @@
+use Rattle.std.proofs.Common.{ap, ◌∙◌, rules}
+use Rattle.object_alloc.proofs.ChooserLemmas.{here-is, here-reserve, with_class-fit, with_class-rooms, with_class-state}
+use Rattle.object_alloc.proofs.choosers.Chooser.see.Goals as goal
+
+pub returns-clause-fit : goal.returns-clause-fit
+returns-clause-fit c =
+    let s = c.args.self.now in
+    let x = c.index_mut.result.now in
+    with_class-fit s (record x { awaited = c.seen.new.self }) s.position c.requires.fit (here-reserve s x c.requires.fit c.index_mut.ensures.value)
