@@ -7,12 +7,13 @@ use Rattle.std.proofs.Math.Seq.{get_or-append_seam}
 use Rattle.std.proofs.lemmas.List.FromFn.{length-map-range_with_len}
 use Rattle.std.proofs.lemmas.List.Sums.{count_by-le-length, length-filter}
 use Rattle.machine.specs.Places.{Home, homes_of, place_at, place_of_home, primary_last, primary_place, replica_count, written_place}
-use Rattle.machine.proofs.PlacesLemmas.{replica_count-is}
+use Rattle.machine.proofs.PlacesLemmas.{replica_count-is, replica_count-some}
+use Rattle.object_alloc.proofs.ViewLemmas.{IsView-of}
 use Rattle.object_alloc.specs.Parts.{pair_of, word_of, written_replica}
 use Rattle.object_alloc.specs.declared.places.Part.{Part}
 use Rattle.object_alloc.specs.declared.places.Part.TheVariants as part
 use Rattle.region_view.specs.Layout.{NodeWord, Slot, position_of, region_of_word}
-use Rattle.region_view.specs.Placed.{Viewed, in_mask, placed_node, placed_nodes, region_start, replicas_of}
+use Rattle.region_view.specs.Placed.{LeavesNoneBare, Viewed, in_mask, placed_node, placed_nodes, region_start, replicas_of}
 use Rattle.region_view.specs.Places.{word_places_of}
 use Rattle.region_view.specs.Sizes.{IsWithinLimits, Sizes}
 use Rattle.verb_words.specs.declared.verbs.Place.{Place}
@@ -41,8 +42,8 @@ few_replicas view region limits =
     let few = limits.replicas in
     omega (arith, length-map-range_with_len f 0 view.shape.replicas, length-filter (in_mask view.mask) (placed_nodes view.shape region), count_by-le-length (in_mask view.mask) (placed_nodes view.shape region))
 
-pub replica_count-few : (view : Viewed) (word : NodeWord) → IsWithinLimits view.shape → replica_count view word ≤ 5
-replica_count-few view word limits = let few = few_replicas view (region_of_word word) limits in omega (arith, replica_count-is view word)
+pub replica_count_few : (view : Viewed) (word : NodeWord) → IsWithinLimits view.shape → replica_count view word ≤ 5
+replica_count_few view word limits = let few = few_replicas view (region_of_word word) limits in omega (arith, replica_count-is view word)
 
 -- the i-th place at which a word is written is the place of a replica
 written_home : (homes : List Home) (i : ℕ) (d : Home) → i < length homes → get_or homes (written_replica i (length homes)) d ≡ get_or (primary_last homes) i d
@@ -66,3 +67,8 @@ pair_written view word i replica pairs are below is =
     let under : replica < length (homes_of view word) = grind (arith, nat_tests) in
     pair-place view.shape (homes_of view word) replica pairs are under
     ∙ ap (place_of_home view.shape) (ap (λ r. get_or (homes_of view word) r (0, Slot 0)) here ∙ written_home (homes_of view word) i (0, Slot 0) below)
+
+-- under a view each word of a block has a replica
+pub some_replica : (view : Viewed) (part : Part) (region block : ℕ) → IsWithinLimits view.shape → LeavesNoneBare view.shape view.mask → region ≤ view.shape.regions → 0 < replica_count view (word_of part region block)
+some_replica view part.Owner region block limits full within = replica_count-some view (word_of part.Owner region block) (IsView-of view limits full) within
+some_replica view part.Bitmap region block limits full within = replica_count-some view (word_of part.Bitmap region block) (IsView-of view limits full) within

@@ -7,6 +7,10 @@ mod blocks;
 mod choosers;
 mod places;
 mod steps;
+mod stocks;
+mod turns;
 
 pub use bits::{BitChange, change};
 pub use machine::bit_change::Changed;
+pub use machine::choosing::Took;
+pub use stocks::Stock;

@@ -1,8 +1,9 @@
-ghost use Rattle.std.specs.Prelude.{◌≡◌, ◌<◌, ◌≤◌, false, length};
-ghost use Rattle.machine.specs.Choosing.{asked, asks_after, asks_from, at_block, begins, block_at, chooses, goes_to, looks, next_block, not_awaited, on_block, on_block_word, on_first, on_scan, owns, region_at, rests, ripens, scanned_all, spreads_from, takes};
-ghost use Rattle.machine.specs.Stock.{class_stock, is_own};
+ghost use Rattle.std.specs.Prelude.{◌≡◌, ◌+◌, ◌^◌, ◌<◌, ◌≤◌, [], All, bit_and, false, length};
+ghost use Rattle.machine.specs.Choosing.{asked, asks_after, asks_from, at_block, begins, block_at, chooses, goes_to, looks, next_block, not_awaited, on_block, on_block_word, on_first, on_scan, owns, region_at, rests, ripens, scanned_all, spreads_from, takes, with_awaited, with_block, with_scanned};
+ghost use Rattle.machine.specs.Stock.{class_stock, is_own, object_bits};
 ghost use Rattle.object_alloc.specs.Choosers.{HasRoom, IsFit, IsInside, phase_of, rooms_of, stock_of, turn_of};
 ghost use Rattle.region_view.specs.Placed.{LeavesNoneBare};
+ghost use Rattle.reuse_epoch.specs.Awaited.{IsClient, client_of, noted};
 
 use crate::choosers::{Chooser, Phase};
 use crate::places::{Part, replica_count};
@@ -102,7 +103,7 @@ impl Chooser {
         })
     }
 
-    fn next_block(&mut self) -> Took
+    pub(crate) fn next_block(&mut self) -> Took
         requires fit { IsFit (stock_of self.old) }
         requires inside { IsInside (stock_of self.old) }
         ensures turn { turn_of self.new result ≡ next_block (stock_of self.old) }
@@ -160,6 +161,20 @@ impl Chooser {
         }
     }
 
+    // The client's begin word was read.
+    pub(crate) fn on_begin_word(&mut self, client: u32, found: u64) -> Took
+        requires fit { IsFit (stock_of self.old) }
+        requires client { IsClient client }
+        requires last { All (λ one. client_of one < client) (class_stock (stock_of self.old)).awaited }
+        ensures turn { turn_of self.new result ≡ asks_from
+            (with_awaited (stock_of self.old) (noted (class_stock (stock_of self.old)).awaited client found))
+            (client + 1) }
+        ensures rooms { rooms_of self.new ≡ rooms_of self.old }
+    {
+        self.note(client, found);
+        self.asks_from(client + 1)
+    }
+
     fn not_awaited(&mut self) -> Took
         requires fit { IsFit (stock_of self.old) }
         ensures turn { turn_of self.new result ≡ not_awaited (stock_of self.old) }
@@ -199,10 +214,23 @@ impl Chooser {
         }
     }
 
-    // The bitmap of this own block was scanned.
-    fn on_scan(&mut self, i: usize) -> Took
+    // The bitmap of this own block was read.
+    pub(crate) fn on_bitmap(&mut self, i: usize, found: u64) -> Took
         requires fit { IsFit (stock_of self.old) }
         requires i { i < length (class_stock (stock_of self.old)).own }
+        ensures turn { turn_of self.new result ≡ on_scan (with_scanned (stock_of self.old) i found) i }
+        ensures rooms { rooms_of self.new ≡ rooms_of self.old }
+    {
+        let count = self.of_class().own.len();
+        prove!(i < count);
+        self.scan(i, found);
+        self.on_scan(i)
+    }
+
+    // This own block was scanned.
+    fn on_scan(&mut self, i: usize) -> Took
+        requires fit { IsFit (stock_of self.old) }
+        requires i { i + 1 < 2 ^ 64 }
         ensures turn { turn_of self.new result ≡ on_scan (stock_of self.old) i }
         ensures rooms { rooms_of self.new ≡ rooms_of self.old }
     {
@@ -229,6 +257,21 @@ impl Chooser {
         } else {
             self.goes_to(Phase::ReadBitmap)
         }
+    }
+
+    // The bitmap of a block that was used before was read.
+    pub(crate) fn on_used_block(&mut self, found: u64) -> Took
+        requires fit { IsFit (stock_of self.old) }
+        requires inside { IsInside (stock_of self.old) }
+        requires room { HasRoom self.old }
+        ensures turn { turn_of self.new result ≡ asks_from
+            (with_awaited (with_block (stock_of self.old) 0 (bit_and found (object_bits self.old.class))) [])
+            1 }
+        ensures rooms { rooms_of self.new ≡ rooms_of self.old }
+    {
+        self.gain(0, found & all_bits(self.class));
+        self.await_nobody();
+        self.asks_from(1)
     }
 
     pub(crate) fn spreads_from(&mut self, unused: bool, backup: usize) -> Took
