@@ -27,14 +27,14 @@ pub with_class-state : (c : Chooser) (stock : ClassStock) (position : ℕ) (of_c
     → stock_of (with_class c stock position) ≡ record (with_class_stock (stock_of c) of_class) { position = position }
 with_class-state c stock position of_class is =
     ap (λ classes. record (stock_of c) { classes = classes; position = position })
-        (map-set class_of c.classes.items c.class stock ∙ ap (slice_set (map class_of c.classes.items) c.class) is)
+    (map-set class_of c.classes.items c.class stock ∙ ap (slice_set (map class_of c.classes.items) c.class) is)
 
 pub with_class-fit : (c : Chooser) (stock : ClassStock) (position : ℕ) → IsFit (stock_of c) → HasUnit stock.reserve → IsFit (stock_of (with_class c stock position))
 with_class-fit c stock position fit has =
     let below = class_within c fit in
     let same : get_or (map class_of (slice_set c.classes.items c.class stock)) c.class no_stock ≡ class_of stock =
-        ap (λ l. get_or l c.class no_stock) (map-set class_of c.classes.items c.class stock)
-        ∙ get_or-set_same (map class_of c.classes.items) c.class (class_of stock) no_stock (omega (arith, length-map c.classes.items class_of)) in
+    ap (λ l. get_or l c.class no_stock) (map-set class_of c.classes.items c.class stock)
+    ∙ get_or-set_same (map class_of c.classes.items) c.class (class_of stock) no_stock (omega (arith, length-map c.classes.items class_of)) in
     record {
       limits = fit.limits;
       whole = length-map (slice_set c.classes.items c.class stock) class_of ∙ length-set c.classes.items c.class stock ∙ sym (length-map c.classes.items class_of) ∙ fit.whole;

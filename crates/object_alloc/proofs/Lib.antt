@@ -1,8 +1,11 @@
 pub mod BitLemmas
 pub mod ChooserLemmas
 pub mod HeldLemmas
+pub mod KeptLemmas
 pub mod OrderLemmas
 pub mod PlaceLemmas
+pub mod RefusalLemmas
 pub mod StockLemmas
+pub mod TakenLemmas
 pub mod TurnLemmas
 pub mod ViewLemmas

@@ -33,14 +33,16 @@ pub not_own-apart : (sizes : Sizes) (class p : ℕ) (own : List OwnBlock) → Al
     → AllByRecursion (λ n. (n == p) ≡ false) (map (number_in sizes) own)
 not_own-apart sizes class p [] all none = tt
 not_own-apart sizes class p (one ∷ own) all none = by (is_block (1 + p / sizes.blocks) (p % sizes.blocks) one) refl (number_in sizes one == p) refl (not_own-apart sizes class p own (tail (IsOwn sizes class) one own all))
-  where is : IsOwn sizes class one
-        is = all 0 one (omega arith)
-        by : (t : Bool) → is_block (1 + p / sizes.blocks) (p % sizes.blocks) one ≡ t → (u : Bool) → (number_in sizes one == p) ≡ u
-            → (list_any (is_block (1 + p / sizes.blocks) (p % sizes.blocks)) own ≡ false → AllByRecursion (λ n. (n == p) ≡ false) (map (number_in sizes) own))
-            → AllByRecursion (λ n. (n == p) ≡ false) (map (number_in sizes) (one ∷ own))
-        by true here u same rest = absurd (false≢true (sym none ∙ (let P : Bool → Type 0 = λ b. (b || list_any (is_block (1 + p / sizes.blocks) (p % sizes.blocks)) own) ≡ true in subst P (sym here) refl)))
-        by false there true same rest = absurd (false≢true (sym there ∙ block-at sizes one p is.region.0 is.block ((Decides-eqb (number_in sizes one) p).0 same)))
-        by false there false other rest = (other, rest (let P : Bool → Type 0 = λ b. (b || list_any (is_block (1 + p / sizes.blocks) (p % sizes.blocks)) own) ≡ false in subst P there none))
+  where
+    is : IsOwn sizes class one
+    is = all 0 one (omega arith)
+
+    by : (t : Bool) → is_block (1 + p / sizes.blocks) (p % sizes.blocks) one ≡ t → (u : Bool) → (number_in sizes one == p) ≡ u
+        → (list_any (is_block (1 + p / sizes.blocks) (p % sizes.blocks)) own ≡ false → AllByRecursion (λ n. (n == p) ≡ false) (map (number_in sizes) own))
+        → AllByRecursion (λ n. (n == p) ≡ false) (map (number_in sizes) (one ∷ own))
+    by true here u same rest = absurd (false≢true (sym none ∙ (let P : Bool → Type 0 = λ b. (b || list_any (is_block (1 + p / sizes.blocks) (p % sizes.blocks)) own) ≡ true in subst P (sym here) refl)))
+    by false there true same rest = absurd (false≢true (sym there ∙ block-at sizes one p is.region.0 is.block ((Decides-eqb (number_in sizes one) p).0 same)))
+    by false there false other rest = (other, rest (let P : Bool → Type 0 = λ b. (b || list_any (is_block (1 + p / sizes.blocks) (p % sizes.blocks)) own) ≡ false in subst P there none))
 
 all-push : (P : ℕ → Type 0) (xs : List ℕ) (x : ℕ) → AllByRecursion P xs → P x → AllByRecursion P (xs ++ x ∷ [])
 all-push P [] x all is = (is, tt)
@@ -50,8 +52,8 @@ distinct-push : (xs : List ℕ) (x : ℕ) → IsDistinct (λ one other. one == o
 distinct-push [] x distinct other = IsDistinct-cons (λ one other. one == other) x [] tt distinct
 distinct-push (y ∷ ys) x distinct other =
     IsDistinct-cons (λ one other. one == other) y (ys ++ x ∷ [])
-        (all-push (λ n. (y == n) ≡ false) ys x (IsDistinct-head (λ one other. one == other) y ys distinct) other.0)
-        (distinct-push ys x (IsDistinct-tail (λ one other. one == other) y ys distinct) other.1)
+    (all-push (λ n. (y == n) ≡ false) ys x (IsDistinct-head (λ one other. one == other) y ys distinct) other.0)
+    (distinct-push ys x (IsDistinct-tail (λ one other. one == other) y ys distinct) other.1)
 
 numbers-push : (sizes : Sizes) (own : List OwnBlock) (new : OwnBlock) → map (number_in sizes) (own ++ new ∷ []) ≡ map (number_in sizes) own ++ number_in sizes new ∷ []
 numbers-push sizes own new = map-append (number_in sizes) own (new ∷ [])
@@ -73,9 +75,10 @@ number-below sizes class own is =
 any-below : (sizes : Sizes) (class : ℕ) (own : List OwnBlock) (q : ℕ) → All (IsOwn sizes class) own → list_any (λ n. q == n) (map (number_in sizes) own) ≡ true → q < sizes.regions * sizes.blocks
 any-below sizes class [] q all any = absurd (false≢true any)
 any-below sizes class (one ∷ own) q all any = by (q == number_in sizes one) refl (any-below sizes class own q (tail (IsOwn sizes class) one own all))
-  where by : (t : Bool) → (q == number_in sizes one) ≡ t → (list_any (λ n. q == n) (map (number_in sizes) own) ≡ true → q < sizes.regions * sizes.blocks) → q < sizes.regions * sizes.blocks
-        by true same rest = subst (λ n. n < sizes.regions * sizes.blocks) (sym ((Decides-eqb q (number_in sizes one)).0 same)) (number-below sizes class one (all 0 one (omega arith)))
-        by false other rest = rest (let P : Bool → Type 0 = λ b. (b || list_any (λ n. q == n) (map (number_in sizes) own)) ≡ true in subst P other any)
+  where
+    by : (t : Bool) → (q == number_in sizes one) ≡ t → (list_any (λ n. q == n) (map (number_in sizes) own) ≡ true → q < sizes.regions * sizes.blocks) → q < sizes.regions * sizes.blocks
+    by true same rest = subst (λ n. n < sizes.regions * sizes.blocks) (sym ((Decides-eqb q (number_in sizes one)).0 same)) (number-below sizes class one (all 0 one (omega arith)))
+    by false other rest = rest (let P : Bool → Type 0 = λ b. (b || list_any (λ n. q == n) (map (number_in sizes) own)) ≡ true in subst P other any)
 
 -- the own blocks of a class are fewer than the blocks of the pool, where a block is none of them
 pub apart-room : (sizes : Sizes) (class : ℕ) (own : List OwnBlock) (p : ℕ) → All (IsOwn sizes class) own → IsDistinct (λ one other. one == other) (map (number_in sizes) own)
@@ -83,15 +86,18 @@ pub apart-room : (sizes : Sizes) (class : ℕ) (own : List OwnBlock) (p : ℕ) �
 apart-room sizes class own p all apart other below =
     let numbers = map (number_in sizes) own in
     let few = length-le_from_distinct_below (numbers ++ p ∷ []) (sizes.regions * sizes.blocks) (distinct-push numbers p apart other)
-        (λ q any. pushed-below numbers q (any-below sizes class own q all) any) in
+    (λ q any. pushed-below numbers q (any-below sizes class own q all) any) in
     omega (arith, length-map own (number_in sizes), length-append numbers (p ∷ []))
-  where pushed-below : (numbers : List ℕ) (q : ℕ) → (list_any (λ n. q == n) numbers ≡ true → q < sizes.regions * sizes.blocks) → list_any (λ n. q == n) (numbers ++ p ∷ []) ≡ true → q < sizes.regions * sizes.blocks
-        pushed-below [] q rest any = last (q == p) refl any
-          where last : (t : Bool) → (q == p) ≡ t → (t || false) ≡ true → q < sizes.regions * sizes.blocks
-                last true same any = subst (λ n. n < sizes.regions * sizes.blocks) (sym ((Decides-eqb q p).0 same)) below
-                last false other any = absurd (false≢true any)
-        pushed-below (n ∷ numbers) q rest any = step (q == n) rest any (pushed-below numbers q)
-          where step : (t : Bool) → ((t || list_any (λ n. q == n) numbers) ≡ true → q < sizes.regions * sizes.blocks) → (t || list_any (λ n. q == n) (numbers ++ p ∷ [])) ≡ true
-                    → ((list_any (λ n. q == n) numbers ≡ true → q < sizes.regions * sizes.blocks) → list_any (λ n. q == n) (numbers ++ p ∷ []) ≡ true → q < sizes.regions * sizes.blocks) → q < sizes.regions * sizes.blocks
-                step true rest any later = rest refl
-                step false rest any later = later rest any
+  where
+    pushed-below : (numbers : List ℕ) (q : ℕ) → (list_any (λ n. q == n) numbers ≡ true → q < sizes.regions * sizes.blocks) → list_any (λ n. q == n) (numbers ++ p ∷ []) ≡ true → q < sizes.regions * sizes.blocks
+    pushed-below [] q rest any = last (q == p) refl any
+      where
+        last : (t : Bool) → (q == p) ≡ t → (t || false) ≡ true → q < sizes.regions * sizes.blocks
+        last true same any = subst (λ n. n < sizes.regions * sizes.blocks) (sym ((Decides-eqb q p).0 same)) below
+        last false other any = absurd (false≢true any)
+    pushed-below (n ∷ numbers) q rest any = step (q == n) rest any (pushed-below numbers q)
+      where
+        step : (t : Bool) → ((t || list_any (λ n. q == n) numbers) ≡ true → q < sizes.regions * sizes.blocks) → (t || list_any (λ n. q == n) (numbers ++ p ∷ [])) ≡ true
+            → ((list_any (λ n. q == n) numbers ≡ true → q < sizes.regions * sizes.blocks) → list_any (λ n. q == n) (numbers ++ p ∷ []) ≡ true → q < sizes.regions * sizes.blocks) → q < sizes.regions * sizes.blocks
+        step true rest any later = rest refl
+        step false rest any later = later rest any

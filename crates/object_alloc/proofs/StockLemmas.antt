@@ -30,17 +30,23 @@ use Rattle.verb_words.specs.Verb.{place_of}
 -- the reserve stands in a unit of a block
 pub has_unit : (sizes : Sizes) (class : ℕ) (of_class : ClassStock) → IsClassStock sizes class of_class → HasUnit of_class.reserve
 has_unit sizes class of_class is = by of_class.reserve is.reserve
-  where by : (reserve : Option ℕ) → ((pointer : ℕ) → reserve ≡ Some pointer → names_object sizes class pointer ≡ true) → HasUnit reserve
-        by None named = tt
-        by (Some pointer) named = let says = names_object-says sizes class pointer (named pointer refl) in (says.below, says.first)
+  where
+    by : (reserve : Option ℕ) → ((pointer : ℕ) → reserve ≡ Some pointer → names_object sizes class pointer ≡ true) → HasUnit reserve
+    by None named = tt
+    by (Some pointer) named = let says = names_object-says sizes class pointer (named pointer refl) in (says.below, says.first)
 
-fit-of : (stock : Stock) → IsStock stock.shape stock.client stock → IsWithinLimits stock.shape → stock.class < CLASSES → IsFit stock
+pub fit-of : (stock : Stock) → IsStock stock.shape stock.client stock → IsWithinLimits stock.shape → stock.class < CLASSES → IsFit stock
 fit-of stock is limits below = record { limits = limits; whole = is.whole; class = below; reserve = has_unit stock.shape stock.class (class_stock stock) (is.classes stock.class below) }
 
 -- a stock of which a turn is taken
 ready-of : (stock : Stock) → IsHeld stock → LeavesNoneBare stock.shape stock.mask → IsReady (view_of stock) stock.client stock.class stock
 ready-of stock held full = record {
-  is_stock = held.state; is_view = IsView-of (view_of stock) held.fit.limits full; number = held.number; held = refl; same = refl; below = held.fit.class;
+  is_stock = held.state;
+  is_view = IsView-of (view_of stock) held.fit.limits full;
+  number = held.number;
+  held = refl;
+  same = refl;
+  below = held.fit.class;
 }
 
 choosing-of : (stock : Stock) → IsHeld stock → LeavesNoneBare stock.shape stock.mask → IsChoosing (view_of stock) stock.client stock.class stock
@@ -88,48 +94,59 @@ few-gained : (stock : Stock) → IsBase stock → IsHeld stock → IsInside stoc
 few-gained stock base held inside none =
     apart-room stock.shape stock.class (class_stock stock).own stock.position (own-of stock held) (base.apart stock.class base.class) (gained-apart stock base (own-of stock held) none) inside
 
+-- a stock of this shape in which all of this holds
+abbrev pub StaysHeld : Sizes → Stock → Type 0
+StaysHeld sizes stock = IsHeld stock × (stock.shape ≡ sizes)
+
 -- a choosing that is under way at some phase
-under_way : (stock : Stock) (answer : Answer) → IsHeld stock → LeavesNoneBare stock.shape stock.mask → IsHeld (turn stock answer).state
+under_way : (stock : Stock) (answer : Answer) → IsHeld stock → LeavesNoneBare stock.shape stock.mask → StaysHeld stock.shape (turn stock answer).state
 under_way stock answer held full =
-    held-from (view_of stock) stock.client stock.class (turn stock answer) full (turn-turned (view_of stock) stock.client stock.class stock answer (choosing-of stock held full))
-        (turn-orderly stock answer (orderly-of stock held) (own-of stock held))
+    let turned = turn-turned (view_of stock) stock.client stock.class stock answer (choosing-of stock held full) in
+    (held-from (view_of stock) stock.client stock.class (turn stock answer) full turned (turn-orderly stock answer (orderly-of stock held) (own-of stock held)), turned.choosing.ready.is_stock.shape)
 
 at_rest : (stock : Stock) (answer : Answer) → stock.phase ≡ Rest → (turn stock answer).state ≡ stock
 at_rest stock (Word found) rests = by stock.phase rests
-  where by : (phase : Phase) → phase ≡ Rest → (turn_at phase stock (Word found)).state ≡ stock
-        by phase is = rw is refl
+  where
+    by : (phase : Phase) → phase ≡ Rest → (turn_at phase stock (Word found)).state ≡ stock
+    by phase is = rw is refl
 at_rest stock Done rests = by stock.phase rests
-  where by : (phase : Phase) → phase ≡ Rest → (turn_at phase stock Done).state ≡ stock
-        by phase is = rw is refl
+  where
+    by : (phase : Phase) → phase ≡ Rest → (turn_at phase stock Done).state ≡ stock
+    by phase is = rw is refl
 at_rest stock Lost rests = by stock.phase rests
-  where by : (phase : Phase) → phase ≡ Rest → (turn_at phase stock Lost).state ≡ stock
-        by phase is = rw is refl
+  where
+    by : (phase : Phase) → phase ≡ Rest → (turn_at phase stock Lost).state ≡ stock
+    by phase is = rw is refl
 
 -- what holds of a stock holds after each answer
-pub turn-held : (stock : Stock) (answer : Answer) → IsHeld stock → IsHeld (turn stock answer).state
+pub turn-held : (stock : Stock) (answer : Answer) → IsHeld stock → StaysHeld stock.shape (turn stock answer).state
 turn-held stock answer held = by stock.phase refl
-  where full : (phase : Phase) → stock.phase ≡ phase → HasView phase stock
-        full phase at = subst (λ p. HasView p stock) at held.view
-        by : (phase : Phase) → stock.phase ≡ phase → IsHeld (turn stock answer).state
-        by Rest at = subst IsHeld (sym (at_rest stock answer at)) held
-        by AskFirst at = under_way stock answer held (full AskFirst at)
-        by (Scan own) at = under_way stock answer held (full (Scan own) at)
-        by (Ask client) at = under_way stock answer held (full (Ask client) at)
-        by ReadBlock at = under_way stock answer held (full ReadBlock at)
-        by (Claim word) at = under_way stock answer held (full (Claim word) at)
-        by (Spread unused backup) at = under_way stock answer held (full (Spread unused backup) at)
-        by ReadBitmap at = under_way stock answer held (full ReadBitmap at)
-        by WriteHead at = under_way stock answer held (full WriteHead at)
+  where
+    full : (phase : Phase) → stock.phase ≡ phase → HasView phase stock
+    full phase at = subst (λ p. HasView p stock) at held.view
+
+    by : (phase : Phase) → stock.phase ≡ phase → StaysHeld stock.shape (turn stock answer).state
+    by Rest at = subst (StaysHeld stock.shape) (sym (at_rest stock answer at)) (held, refl)
+    by AskFirst at = under_way stock answer held (full AskFirst at)
+    by (Scan own) at = under_way stock answer held (full (Scan own) at)
+    by (Ask client) at = under_way stock answer held (full (Ask client) at)
+    by ReadBlock at = under_way stock answer held (full ReadBlock at)
+    by (Claim word) at = under_way stock answer held (full (Claim word) at)
+    by (Spread unused backup) at = under_way stock answer held (full (Spread unused backup) at)
+    by ReadBitmap at = under_way stock answer held (full ReadBitmap at)
+    by WriteHead at = under_way stock answer held (full WriteHead at)
 
 -- a new choosing under a view
-pub begins-held : (stock : Stock) (view : Viewed) (class : ℕ) → IsHeld stock → view.shape ≡ stock.shape → LeavesNoneBare view.shape view.mask → class < CLASSES → IsHeld (begins stock view.mask class).state
+begins-turn : (stock : Stock) (view : Viewed) (class : ℕ) → IsHeld stock → view.shape ≡ stock.shape → LeavesNoneBare view.shape view.mask → class < CLASSES → IsTurned view stock.client class (begins stock view.mask class)
+begins-turn stock view class held same full below =
+    begins-turned view stock.client class stock (subst (λ s. IsStock s stock.client stock) (sym same) held.state)
+    (IsView-of view (subst IsWithinLimits (sym same) held.fit.limits) full)
+    (subst (λ (s : Sizes). (1 ≤ stock.client) × (stock.client ≤ s.clients)) (sym same) held.number) below
+
+pub begins-held : (stock : Stock) (view : Viewed) (class : ℕ) → IsHeld stock → view.shape ≡ stock.shape → LeavesNoneBare view.shape view.mask → class < CLASSES → StaysHeld stock.shape (begins stock view.mask class).state
 begins-held stock view class held same full below =
-    let limits : IsWithinLimits view.shape = subst IsWithinLimits (sym same) held.fit.limits in
-    let state : IsStock view.shape stock.client stock = subst (λ s. IsStock s stock.client stock) (sym same) held.state in
-    let number = subst (λ (s : Sizes). (1 ≤ stock.client) × (stock.client ≤ s.clients)) (sym same) held.number in
-    held-from view stock.client class (begins stock view.mask class) full
-        (begins-turned view stock.client class stock state (IsView-of view limits full) number below)
-        (begins-orderly stock view.mask class (orderly-of stock held).base below)
+    let turned = begins-turn stock view class held same full below in
+    (held-from view stock.client class (begins stock view.mask class) full turned (begins-orderly stock view.mask class (orderly-of stock held).base below), turned.choosing.ready.is_stock.shape ∙ same)
 
 -- the first stock
 pub first-held : (client : ℕ) (sizes : Sizes) → IsWithinLimits sizes → (1 ≤ client) × (client ≤ sizes.clients) → IsHeld (first_stock client sizes)
@@ -137,14 +154,15 @@ unfolding IsDistinct
 first-held client sizes limits number =
     let state = first_stock-is sizes client in
     record { state = state; fit = fit-of (first_stock client sizes) state limits (omega arith); number = number; apart = apart; view = tt; at = tt; on = tt }
-  where apart : (class : ℕ) → class < CLASSES → IsApart sizes (slice_index_or (first_stock client sizes).classes class no_stock)
-        apart zero below = tt
-        apart (suc zero) below = tt
-        apart (suc (suc zero)) below = tt
-        apart (suc (suc (suc zero))) below = tt
-        apart (suc (suc (suc (suc zero)))) below = tt
-        apart (suc (suc (suc (suc (suc zero))))) below = tt
-        apart (suc (suc (suc (suc (suc (suc class)))))) below = absurd (omega arith)
+  where
+    apart : (class : ℕ) → class < CLASSES → IsApart sizes (slice_index_or (first_stock client sizes).classes class no_stock)
+    apart zero below = tt
+    apart (suc zero) below = tt
+    apart (suc (suc zero)) below = tt
+    apart (suc (suc (suc zero))) below = tt
+    apart (suc (suc (suc (suc zero)))) below = tt
+    apart (suc (suc (suc (suc (suc zero))))) below = tt
+    apart (suc (suc (suc (suc (suc (suc class)))))) below = absurd (omega arith)
 
 -- a client's own block is a block of the pool
 pub own_within : (stock : Stock) (i : ℕ) (d : OwnBlock) → IsHeld stock → i < length (class_stock stock).own
@@ -158,46 +176,50 @@ room_left stock held inside none = few-gained stock (orderly-of stock held).base
 -- the verb goes to a place of the pool
 pub next_inside : (stock : Stock) → IsHeld stock → IsInPool stock.shape (place_of (next stock))
 next_inside stock held = by stock.phase refl
-  where full : (phase : Phase) → stock.phase ≡ phase → HasView phase stock
-        full phase at = subst (λ p. HasView p stock) at held.view
-        inside : LeavesNoneBare stock.shape stock.mask → IsInPool stock.shape (place_of (next stock))
-        inside covers = next-inside (view_of stock) stock.client stock.class stock (choosing-of stock held covers)
-        by : (phase : Phase) → stock.phase ≡ phase → IsInPool stock.shape (place_of (next stock))
-        by Rest at = let P : Phase → Type 0 = λ p. IsInPool stock.shape (place_of (verb_at p stock)) in subst P (sym at) (control-inside stock.shape EpochWord tt)
-        by AskFirst at = inside (full AskFirst at)
-        by (Scan own) at = inside (full (Scan own) at)
-        by (Ask client) at = inside (full (Ask client) at)
-        by ReadBlock at = inside (full ReadBlock at)
-        by (Claim word) at = inside (full (Claim word) at)
-        by (Spread unused backup) at = inside (full (Spread unused backup) at)
-        by ReadBitmap at = inside (full ReadBitmap at)
-        by WriteHead at = inside (full WriteHead at)
+  where
+    full : (phase : Phase) → stock.phase ≡ phase → HasView phase stock
+    full phase at = subst (λ p. HasView p stock) at held.view
+
+    inside : LeavesNoneBare stock.shape stock.mask → IsInPool stock.shape (place_of (next stock))
+    inside covers = next-inside (view_of stock) stock.client stock.class stock (choosing-of stock held covers)
+
+    by : (phase : Phase) → stock.phase ≡ phase → IsInPool stock.shape (place_of (next stock))
+    by Rest at = let P : Phase → Type 0 = λ p. IsInPool stock.shape (place_of (verb_at p stock)) in subst P (sym at) (control-inside stock.shape EpochWord tt)
+    by AskFirst at = inside (full AskFirst at)
+    by (Scan own) at = inside (full (Scan own) at)
+    by (Ask client) at = inside (full (Ask client) at)
+    by ReadBlock at = inside (full ReadBlock at)
+    by (Claim word) at = inside (full (Claim word) at)
+    by (Spread unused backup) at = inside (full (Spread unused backup) at)
+    by ReadBitmap at = inside (full ReadBitmap at)
+    by WriteHead at = inside (full WriteHead at)
 
 -- what a turn tells are objects of the class
 pub turn-taken : (stock : Stock) (answer : Answer) → IsHeld stock → IsTaken stock.shape stock.class (turn stock answer).told
 turn-taken stock answer held = by stock.phase refl
-  where full : (phase : Phase) → stock.phase ≡ phase → HasView phase stock
-        full phase at = subst (λ p. HasView p stock) at held.view
-        taken : LeavesNoneBare stock.shape stock.mask → IsTaken stock.shape stock.class (turn stock answer).told
-        taken covers = (turn-turned (view_of stock) stock.client stock.class stock answer (choosing-of stock held covers)).taken
-        at_rest-told : (answer : Answer) → stock.phase ≡ Rest → IsTaken stock.shape stock.class (turn_at Rest stock answer).told
-        at_rest-told (Word found) at = tt
-        at_rest-told Done at = tt
-        at_rest-told Lost at = tt
-        by : (phase : Phase) → stock.phase ≡ phase → IsTaken stock.shape stock.class (turn stock answer).told
-        by Rest at = let P : Phase → Type 0 = λ p. IsTaken stock.shape stock.class (turn_at p stock answer).told in subst P (sym at) (at_rest-told answer at)
-        by AskFirst at = taken (full AskFirst at)
-        by (Scan own) at = taken (full (Scan own) at)
-        by (Ask client) at = taken (full (Ask client) at)
-        by ReadBlock at = taken (full ReadBlock at)
-        by (Claim word) at = taken (full (Claim word) at)
-        by (Spread unused backup) at = taken (full (Spread unused backup) at)
-        by ReadBitmap at = taken (full ReadBitmap at)
-        by WriteHead at = taken (full WriteHead at)
+  where
+    full : (phase : Phase) → stock.phase ≡ phase → HasView phase stock
+    full phase at = subst (λ p. HasView p stock) at held.view
+
+    taken : LeavesNoneBare stock.shape stock.mask → IsTaken stock.shape stock.class (turn stock answer).told
+    taken covers = (turn-turned (view_of stock) stock.client stock.class stock answer (choosing-of stock held covers)).taken
+
+    at_rest-told : (answer : Answer) → stock.phase ≡ Rest → IsTaken stock.shape stock.class (turn_at Rest stock answer).told
+    at_rest-told (Word found) at = tt
+    at_rest-told Done at = tt
+    at_rest-told Lost at = tt
+
+    by : (phase : Phase) → stock.phase ≡ phase → IsTaken stock.shape stock.class (turn stock answer).told
+    by Rest at = let P : Phase → Type 0 = λ p. IsTaken stock.shape stock.class (turn_at p stock answer).told in subst P (sym at) (at_rest-told answer at)
+    by AskFirst at = taken (full AskFirst at)
+    by (Scan own) at = taken (full (Scan own) at)
+    by (Ask client) at = taken (full (Ask client) at)
+    by ReadBlock at = taken (full ReadBlock at)
+    by (Claim word) at = taken (full (Claim word) at)
+    by (Spread unused backup) at = taken (full (Spread unused backup) at)
+    by ReadBitmap at = taken (full ReadBitmap at)
+    by WriteHead at = taken (full WriteHead at)
 
 pub begins-taken : (stock : Stock) (view : Viewed) (class : ℕ) → IsHeld stock → view.shape ≡ stock.shape → LeavesNoneBare view.shape view.mask → class < CLASSES
     → IsTaken view.shape class (begins stock view.mask class).told
-begins-taken stock view class held same full below =
-    (begins-turned view stock.client class stock (subst (λ s. IsStock s stock.client stock) (sym same) held.state)
-        (IsView-of view (subst IsWithinLimits (sym same) held.fit.limits) full)
-        (subst (λ (s : Sizes). (1 ≤ stock.client) × (stock.client ≤ s.clients)) (sym same) held.number) below).taken
+begins-taken stock view class held same full below = (begins-turn stock view class held same full below).taken

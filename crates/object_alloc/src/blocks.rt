@@ -77,9 +77,8 @@ fn spot_bit(spot: Option<Spot>, own: OwnBlock) -> u64
     ensures { result ≡ spot_bit spot own }
 {
     match spot {
-        Some(spot) if spot.region == u32::from(own.region) && spot.block == u32::from(own.block) => {
-            spot.bit
-        }
+        Some(spot) if spot.region == u32::from(own.region) && spot.block == u32::from(own.block) =>
+            { spot.bit }
         _ => 0,
     }
 }
@@ -98,7 +97,10 @@ fn pointer_at(own: OwnBlock, class: u8, bits: u64) -> u32
     ensures { result ≡ pointer_at own class bits }
 {
     let first = 16 + 64 * u32::from(own.block);
-    pointer_of(u32::from(own.region), first + bits.trailing_zeros() * units(class))
+    pointer_of(
+        u32::from(own.region),
+        first + bits.trailing_zeros() * units(class),
+    )
 }
 
 // All that waits in the block is ripe.
@@ -208,9 +210,7 @@ impl ClassStock {
     pub(crate) fn has_block(&self, region: u32, block: u32) -> bool
         ensures { result ≡ list_any (is_block region block) self.now.own.items }
     {
-        self.own
-            .iter()
-            .any(|own| u32::from(own.region) == region && u32::from(own.block) == block)
+        self.own.iter().any(|own| u32::from(own.region) == region && u32::from(own.block) == block)
     }
 
     /// The reserve's bit is cleared, and the next object is the reserve.

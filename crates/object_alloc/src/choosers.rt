@@ -139,7 +139,9 @@ impl Chooser {
         ensures fit { IsFit (stock_of self.new) }
         ensures rooms { rooms_of self.new ≡ rooms_of self.old }
     {
-        self.classes[self.class as usize].awaited.note(client, begin);
+        self.classes[self.class as usize]
+            .awaited
+            .note(client, begin);
     }
 
     pub(crate) fn see(&mut self, client: u32, begin: u64)
@@ -148,7 +150,9 @@ impl Chooser {
         ensures fit { IsFit (stock_of self.new) }
         ensures rooms { rooms_of self.new ≡ rooms_of self.old }
     {
-        self.classes[self.class as usize].awaited.seen(client, begin);
+        self.classes[self.class as usize]
+            .awaited
+            .seen(client, begin);
     }
 
     pub(crate) fn await_nobody(&mut self)

@@ -72,7 +72,6 @@ impl Stock {
         ensures told { result ≡ (begins self.old view.mask class).told }
         ensures taken { IsTaken view.shape class result }
     {
-        prove!(view.shape.regions > 0);
         self.chooser.begins(view.mask, class)
     }
 

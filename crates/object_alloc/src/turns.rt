@@ -36,7 +36,10 @@ impl Chooser {
                 expect: word,
                 fresh: self.own_word(),
             },
-            Phase::Spread { unused: _, backup } => Verb::Write(self.backup(backup), self.own_word()),
+            Phase::Spread { unused: _, backup } => Verb::Write(
+                self.backup(backup),
+                self.own_word(),
+            ),
             Phase::ReadBitmap => Verb::Read(self.primary(Part::Bitmap)),
             Phase::WriteHead => Verb::Write(self.head(), self.first_reserve()),
         }
@@ -62,7 +65,13 @@ impl Chooser {
         requires backup { backup < replica_count (view_of (stock_of self.now)) (word_at_block (stock_of self.now)) }
         ensures { result ≡ written_place (view_of (stock_of self.now)) (word_at_block (stock_of self.now)) backup }
     {
-        written_place(&self.view(), Part::Owner, self.region(), self.block(), backup)
+        written_place(
+            &self.view(),
+            Part::Owner,
+            self.region(),
+            self.block(),
+            backup,
+        )
     }
 
     // The bitmap of an own block of the class, on the primary.
@@ -164,7 +173,10 @@ impl Chooser {
             }
             Phase::ReadBitmap => self.on_used_block(found),
             Phase::Rest => Took::Going,
-            Phase::Spread { unused: _, backup: _ } => Took::Going,
+            Phase::Spread {
+                unused: _,
+                backup: _,
+            } => Took::Going,
             Phase::WriteHead => Took::Going,
         }
     }

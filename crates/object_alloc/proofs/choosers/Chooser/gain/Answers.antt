@@ -16,9 +16,9 @@ returns-clause-state c =
     let gained : OwnBlock = record { region = region_at (stock_of s); block = block_at (stock_of s); ripe = c.args.ripe; waiting = c.args.waiting } in
     let f : machine.ClassStock → machine.ClassStock = λ of_class. record of_class { own = of_class.own ++ gained ∷ [] } in
     let items : c.push_reserved.new.self.items ≡ x.own.items ++ gained ∷ [] =
-        c.push_reserved.ensures.items ∙ λ i. x.own.items ++ record { region = region i; block = block i; ripe = c.args.ripe; waiting = c.args.waiting } ∷ [] in
+    c.push_reserved.ensures.items ∙ λ i. x.own.items ++ record { region = region i; block = block i; ripe = c.args.ripe; waiting = c.args.waiting } ∷ [] in
     with_class-state s (record x { own = c.push_reserved.new.self }) (s.position + 1) (f (class_stock (stock_of s)))
-        (ap (λ list. record { own = list; reserve = x.reserve; awaited = x.awaited }) items ∙ ap f here)
+    (ap (λ list. record { own = list; reserve = x.reserve; awaited = x.awaited }) items ∙ ap f here)
 
 pub returns-clause-fit : goal.returns-clause-fit
 returns-clause-fit c =

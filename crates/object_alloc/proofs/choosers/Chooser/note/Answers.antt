@@ -13,7 +13,7 @@ returns-clause-state c =
     let here = here-is s x c.requires.fit c.index_mut.ensures.value in
     let f : machine.ClassStock → machine.ClassStock = λ of_class. record of_class { awaited = noted of_class.awaited c.args.client c.args.begin } in
     with_class-state s (record x { awaited = c.note.new.self }) s.position (f (class_stock (stock_of s)))
-        (ap (λ list. record { own = x.own.items; reserve = x.reserve; awaited = list }) c.note.ensures.list ∙ ap f here)
+    (ap (λ list. record { own = x.own.items; reserve = x.reserve; awaited = list }) c.note.ensures.list ∙ ap f here)
 
 pub returns-clause-fit : goal.returns-clause-fit
 returns-clause-fit c =

@@ -1,0 +1,12 @@
+use Rattle.object_alloc.proofs.KeptLemmas.{after-kept, after-taken}
+use Rattle.object_alloc.proofs.RefusalLemmas.{after-refused}
+use Rattle.object_alloc.proofs.stocks.Stock.after.Goals as goal
+
+pub invariant_of-self : goal.invariant_of-self
+invariant_of-self c = after-kept c.self.inside.chooser c.after.new.self c.after.result c.args.answer c.self.invariant c.after.ensures.turn c.after.ensures.rooms
+
+pub returns-clause-taken : goal.returns-clause-taken
+returns-clause-taken c = after-taken c.self.inside.chooser c.after.new.self c.args.self.now c.after.result c.args.answer c.self.invariant c.self.view_is c.after.ensures.turn
+
+pub returns-clause-refused : goal.returns-clause-refused
+returns-clause-refused c = λ node. after-refused c.self.inside.chooser c.after.new.self c.args.self.now c.after.result c.args.answer node c.self.view_is c.after.ensures.turn
