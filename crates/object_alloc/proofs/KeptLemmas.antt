@@ -30,20 +30,34 @@ roomy-from : (before after : Chooser) → IsRoomy before → rooms_of after ≡ 
 roomy-from before after roomy rooms shape = λ class below.
     ap (λ l. get_or l class 0) rooms ∙ roomy class below ∙ ap (λ (s : Sizes). s.regions * s.blocks) (sym shape)
 
-kept-from : (before after : Chooser) (stock : Stock) → stock_of after ≡ stock → StaysHeld before.shape stock → rooms_of after ≡ rooms_of before → IsRoomy before → IsKept after
-kept-from before after stock is stays rooms roomy = record {
+kept-from : (before after : Chooser) (class : ℕ) (stock : Stock) → stock_of after ≡ stock → StaysHeld before.shape class stock → rooms_of after ≡ rooms_of before → IsRoomy before → IsKept after
+kept-from before after class stock is stays rooms roomy = record {
   held = subst IsHeld (sym is) stays.0;
   roomy = roomy-from before after roomy rooms (ap (λ (s : Stock). s.shape) is ∙ stays.1);
 }
 
 pub after-kept : (before after : Chooser) (told : Took) (answer : Answer) → IsKept before → turn_of after told ≡ turn (stock_of before) answer → rooms_of after ≡ rooms_of before → IsKept after
 after-kept before after told answer kept is rooms =
-    kept-from before after (turn (stock_of before) answer).state (ap (λ (t : Turn Stock Took). t.state) is) (turn-held (stock_of before) answer kept.held) rooms kept.roomy
+    kept-from before after before.class (turn (stock_of before) answer).state (ap (λ (t : Turn Stock Took). t.state) is) (turn-held (stock_of before) answer kept.held) rooms kept.roomy
 
 pub begun-kept : (before after : Chooser) (told : Took) (view : Viewed) (class : ℕ) → IsKept before → view.shape ≡ before.shape → LeavesNoneBare view.shape view.mask → class < CLASSES
     → turn_of after told ≡ begins (stock_of before) view.mask class → rooms_of after ≡ rooms_of before → IsKept after
 begun-kept before after told view class kept same full below is rooms =
-    kept-from before after (begins (stock_of before) view.mask class).state (ap (λ (t : Turn Stock Took). t.state) is) (begins-held (stock_of before) view class kept.held same full below) rooms kept.roomy
+    kept-from before after class (begins (stock_of before) view.mask class).state (ap (λ (t : Turn Stock Took). t.state) is) (begins-held (stock_of before) view class kept.held same full below) rooms kept.roomy
+
+pub after-same : (before after : Chooser) (now : Stock) (told : Took) (answer : Answer) → IsKept before → stock_of before ≡ now → turn_of after told ≡ turn (stock_of before) answer
+    → (after.shape ≡ now.shape) × (after.class ≡ now.class)
+after-same before after now told answer kept same is =
+    let stays = turn-held (stock_of before) answer kept.held in
+    let state = ap (λ (t : Turn Stock Took). t.state) is in
+    (ap (λ (s : Stock). s.shape) state ∙ stays.1 ∙ ap (λ (s : Stock). s.shape) same, ap (λ (s : Stock). s.class) state ∙ stays.2 ∙ ap (λ (s : Stock). s.class) same)
+
+pub begun-same : (before after : Chooser) (now : Stock) (told : Took) (view : Viewed) (class : ℕ) → IsKept before → view.shape ≡ before.shape → LeavesNoneBare view.shape view.mask → class < CLASSES → stock_of before ≡ now
+    → turn_of after told ≡ begins (stock_of before) view.mask class → (after.shape ≡ now.shape) × (after.class ≡ class)
+begun-same before after now told view class kept shape full below same is =
+    let stays = begins-held (stock_of before) view class kept.held shape full below in
+    let state = ap (λ (t : Turn Stock Took). t.state) is in
+    (ap (λ (s : Stock). s.shape) state ∙ stays.1 ∙ ap (λ (s : Stock). s.shape) same, ap (λ (s : Stock). s.class) state ∙ stays.2)
 
 pub after-taken : (before after : Chooser) (now : Stock) (told : Took) (answer : Answer) → IsKept before → stock_of before ≡ now → turn_of after told ≡ turn (stock_of before) answer → IsTaken now.shape now.class told
 after-taken before after now told answer kept same is =

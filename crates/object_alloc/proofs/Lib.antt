@@ -9,3 +9,4 @@ pub mod StockLemmas
 pub mod TakenLemmas
 pub mod TurnLemmas
 pub mod ViewLemmas
+pub mod TestLemmas

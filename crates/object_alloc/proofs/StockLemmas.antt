@@ -94,15 +94,15 @@ few-gained : (stock : Stock) → IsBase stock → IsHeld stock → IsInside stoc
 few-gained stock base held inside none =
     apart-room stock.shape stock.class (class_stock stock).own stock.position (own-of stock held) (base.apart stock.class base.class) (gained-apart stock base (own-of stock held) none) inside
 
--- a stock of this shape in which all of this holds
-abbrev pub StaysHeld : Sizes → Stock → Type 0
-StaysHeld sizes stock = IsHeld stock × (stock.shape ≡ sizes)
+-- a stock of this shape, in a choosing for this class, in which all of this holds
+abbrev pub StaysHeld : Sizes → ℕ → Stock → Type 0
+StaysHeld sizes class stock = IsHeld stock × (stock.shape ≡ sizes) × (stock.class ≡ class)
 
 -- a choosing that is under way at some phase
-under_way : (stock : Stock) (answer : Answer) → IsHeld stock → LeavesNoneBare stock.shape stock.mask → StaysHeld stock.shape (turn stock answer).state
+under_way : (stock : Stock) (answer : Answer) → IsHeld stock → LeavesNoneBare stock.shape stock.mask → StaysHeld stock.shape stock.class (turn stock answer).state
 under_way stock answer held full =
     let turned = turn-turned (view_of stock) stock.client stock.class stock answer (choosing-of stock held full) in
-    (held-from (view_of stock) stock.client stock.class (turn stock answer) full turned (turn-orderly stock answer (orderly-of stock held) (own-of stock held)), turned.choosing.ready.is_stock.shape)
+    (held-from (view_of stock) stock.client stock.class (turn stock answer) full turned (turn-orderly stock answer (orderly-of stock held) (own-of stock held)), turned.choosing.ready.is_stock.shape, turned.choosing.ready.same)
 
 at_rest : (stock : Stock) (answer : Answer) → stock.phase ≡ Rest → (turn stock answer).state ≡ stock
 at_rest stock (Word found) rests = by stock.phase rests
@@ -119,14 +119,14 @@ at_rest stock Lost rests = by stock.phase rests
     by phase is = rw is refl
 
 -- what holds of a stock holds after each answer
-pub turn-held : (stock : Stock) (answer : Answer) → IsHeld stock → StaysHeld stock.shape (turn stock answer).state
+pub turn-held : (stock : Stock) (answer : Answer) → IsHeld stock → StaysHeld stock.shape stock.class (turn stock answer).state
 turn-held stock answer held = by stock.phase refl
   where
     full : (phase : Phase) → stock.phase ≡ phase → HasView phase stock
     full phase at = subst (λ p. HasView p stock) at held.view
 
-    by : (phase : Phase) → stock.phase ≡ phase → StaysHeld stock.shape (turn stock answer).state
-    by Rest at = subst (StaysHeld stock.shape) (sym (at_rest stock answer at)) (held, refl)
+    by : (phase : Phase) → stock.phase ≡ phase → StaysHeld stock.shape stock.class (turn stock answer).state
+    by Rest at = subst (StaysHeld stock.shape stock.class) (sym (at_rest stock answer at)) (held, refl, refl)
     by AskFirst at = under_way stock answer held (full AskFirst at)
     by (Scan own) at = under_way stock answer held (full (Scan own) at)
     by (Ask client) at = under_way stock answer held (full (Ask client) at)
@@ -143,10 +143,10 @@ begins-turn stock view class held same full below =
     (IsView-of view (subst IsWithinLimits (sym same) held.fit.limits) full)
     (subst (λ (s : Sizes). (1 ≤ stock.client) × (stock.client ≤ s.clients)) (sym same) held.number) below
 
-pub begins-held : (stock : Stock) (view : Viewed) (class : ℕ) → IsHeld stock → view.shape ≡ stock.shape → LeavesNoneBare view.shape view.mask → class < CLASSES → StaysHeld stock.shape (begins stock view.mask class).state
+pub begins-held : (stock : Stock) (view : Viewed) (class : ℕ) → IsHeld stock → view.shape ≡ stock.shape → LeavesNoneBare view.shape view.mask → class < CLASSES → StaysHeld stock.shape class (begins stock view.mask class).state
 begins-held stock view class held same full below =
     let turned = begins-turn stock view class held same full below in
-    (held-from view stock.client class (begins stock view.mask class) full turned (begins-orderly stock view.mask class (orderly-of stock held).base below), turned.choosing.ready.is_stock.shape ∙ same)
+    (held-from view stock.client class (begins stock view.mask class) full turned (begins-orderly stock view.mask class (orderly-of stock held).base below), turned.choosing.ready.is_stock.shape ∙ same, turned.choosing.ready.same)
 
 -- the first stock
 pub first-held : (client : ℕ) (sizes : Sizes) → IsWithinLimits sizes → (1 ≤ client) × (client ≤ sizes.clients) → IsHeld (first_stock client sizes)

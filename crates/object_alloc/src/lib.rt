@@ -8,6 +8,8 @@ mod choosers;
 mod places;
 mod steps;
 mod stocks;
+#[cfg(test)]
+mod tests;
 mod turns;
 
 pub use bits::{BitChange, change};

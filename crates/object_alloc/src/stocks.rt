@@ -71,6 +71,7 @@ impl Stock {
         ensures state { self.new ≡ (begins self.old view.mask class).state }
         ensures told { result ≡ (begins self.old view.mask class).told }
         ensures taken { IsTaken view.shape class result }
+        ensures same { (self.new.shape ≡ self.old.shape) × (self.new.class ≡ class) }
     {
         self.chooser.begins(view.mask, class)
     }
@@ -98,6 +99,7 @@ impl Stock {
         ensures state { self.new ≡ (turn self.old answer).state }
         ensures told { result ≡ (turn self.old answer).told }
         ensures taken { IsTaken self.old.shape self.old.class result }
+        ensures same { (self.new.shape ≡ self.old.shape) × (self.new.class ≡ self.old.class) }
         ensures refused { (node : ℕ) → (result ≡ Refused node)
             ↔ ((answer ≡ Lost) × (node ≡ (place_of (next self.old)).node)) }
     {

@@ -1,4 +1,4 @@
-use Rattle.object_alloc.proofs.KeptLemmas.{after-kept, after-taken}
+use Rattle.object_alloc.proofs.KeptLemmas.{after-kept, after-same, after-taken}
 use Rattle.object_alloc.proofs.RefusalLemmas.{after-refused}
 use Rattle.object_alloc.proofs.stocks.Stock.after.Goals as goal
 
@@ -10,3 +10,6 @@ returns-clause-taken c = after-taken c.self.inside.chooser c.after.new.self c.ar
 
 pub returns-clause-refused : goal.returns-clause-refused
 returns-clause-refused c = λ node. after-refused c.self.inside.chooser c.after.new.self c.args.self.now c.after.result c.args.answer node c.self.view_is c.after.ensures.turn
+
+pub returns-clause-same : goal.returns-clause-same
+returns-clause-same c = after-same c.self.inside.chooser c.after.new.self c.args.self.now c.after.result c.args.answer c.self.invariant c.self.view_is c.after.ensures.turn
