@@ -1,6 +1,5 @@
 -- What holds of a change of a bit when it begins, and where its verbs go.
-use Rattle.std.proofs.Common.{◌≡◌, ℕ, ◌+◌, ◌<◌, Bool, true, refl, sym, ap, subst, ◌∙◌, arith}
-use Rattle.machine.specs.BitChange as machine
+use Rattle.std.proofs.Common.{◌≡◌, ℕ, ◌<◌, Bool, true, sym, subst, arith}
 use Rattle.machine.specs.BitChange.{BitChange, IsBitChange, bit_change_of, bitmap_place, first_phase}
 use Rattle.machine.specs.ObjectNames.{bitmap_of, names_object}
 use Rattle.machine.specs.Places.{IsInPool}

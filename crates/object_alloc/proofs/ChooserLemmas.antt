@@ -1,6 +1,6 @@
 -- What a change of one class changes of a chooser.
-use Rattle.std.proofs.Common.{◌≡◌, ℕ, ◌<◌, List, length, map, get_or, refl, sym, ap, ◌∙◌, subst, arith, length-set}
-use Rattle.std.specs.Prelude.{slice_index_or, slice_set}
+use Rattle.std.proofs.Common.{◌≡◌, ℕ, ◌<◌, length, map, get_or, sym, ap, ◌∙◌, subst, arith, length-set}
+use Rattle.std.specs.Prelude.{slice_set}
 use Rattle.std.specs.Vec.{with_item}
 use Rattle.std.proofs.lemmas.List.{get_or-map, get_or-set_same, length-map, map-set}
 use Rattle.std.proofs.Math.Seq.{map-set_same}
@@ -10,7 +10,6 @@ use Rattle.object_alloc.specs.Choosers.{IsFit, rooms_of, stock_of}
 use Rattle.object_alloc.specs.Classes.{HasUnit, class_of, room_of}
 use Rattle.object_alloc.specs.declared.blocks.ClassStock.{ClassStock}
 use Rattle.object_alloc.specs.declared.choosers.Chooser.{Chooser}
-use Rattle.object_form.specs.declared.classes.TheConstants.{CLASSES}
 
 -- a chooser with another stock of the class that is chosen for, at another position
 abbrev pub with_class : Chooser → ClassStock → ℕ → Chooser

@@ -1,5 +1,5 @@
 -- A stock stays in order, whatever is answered.
-use Rattle.std.proofs.Common.{◌≡◌, ◌≢◌, ℕ, zero, suc, ◌+◌, ◌-◌, ◌*◌, ◌/◌, ◌%◌, ◌<◌, ◌≤◌, ◌==◌, ◌⊎◌, inl, inr, Bool, true, false, ◌&&◌, ◌||◌, List, [], ◌∷◌, ◌++◌, length, map, get_or, Option, Some, None, refl, sym, ap, subst, ◌∙◌, arith, length-append, length-set, if◌then◌else◌}
+use Rattle.std.proofs.Common.{◌≡◌, ◌≢◌, ℕ, zero, suc, ◌+◌, ◌-◌, ◌*◌, ◌/◌, ◌%◌, ◌<◌, ◌==◌, ◌⊎◌, inl, inr, Bool, true, false, ◌&&◌, ◌||◌, List, [], ◌∷◌, length, map, Option, Some, None, refl, sym, ap, subst, ◌∙◌, arith, length-set}
 use Rattle.std.specs.Prelude.{All, bit_and, not, nat_le, nat_lt, slice_index_or, slice_set}
 use Rattle.std.specs.List.{AllByRecursion, IsDistinct, list_any}
 use Rattle.std.proofs.Math.Seq.{map-set_same}
@@ -13,10 +13,9 @@ use Rattle.block_alloc.specs.declared.BlockWord.TheVariants.{Unused, Owned, Rele
 use Rattle.block_alloc.specs.BlockWord.{block_in}
 use Rattle.machine.specs.Choosing.{asked, asks_after, asks_from, at_block, begins, block_at, chooses, first_awaited, goes_to, looks, next_block, no_block, not_awaited, on_block, on_block_word, on_first, on_scan, own_at, owns, region_at, rests, ripens, scanned_all, spreads_from, takes, turn, turn_at, with_awaited, with_block, with_scanned, word_at_block}
 use Rattle.machine.specs.declared.choosing.Took.{Took}
-use Rattle.machine.specs.declared.choosing.Took.TheVariants.{Going, Have, NoSpace, Refused}
+use Rattle.machine.specs.declared.choosing.Took.TheVariants.{Have, NoSpace}
 use Rattle.machine.specs.Places.{replica_count}
 use Rattle.machine.specs.Stock.{AskFirst, Ask, Claim, ClassStock, IsOwn, OwnBlock, Phase, ReadBitmap, ReadBlock, Rest, Scan, Spread, Stock, WriteHead, any_waits, class_stock, first_free, is_block, is_own, no_stock, object_bits, ripened, ripened_block, scanned_block, view_of, with_class_stock}
-use Rattle.machine.specs.Turn.{Turn}
 use Rattle.object_alloc.proofs.OrderLemmas.{apart-push, not_own-apart}
 use Rattle.object_alloc.specs.Held.{IsApart, IsNotOwn, IsOn, number_in}
 use Rattle.object_form.specs.declared.classes.TheConstants.{CLASSES}

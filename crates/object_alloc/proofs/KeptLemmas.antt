@@ -1,5 +1,5 @@
 -- What holds of the program's stock stays so.
-use Rattle.std.proofs.Common.{◌≡◌, ℕ, ◌+◌, ◌*◌, ◌<◌, ◌≤◌, Bool, true, List, length, map, get_or, refl, sym, ap, subst, ◌∙◌, arith, replicate}
+use Rattle.std.proofs.Common.{◌≡◌, ℕ, ◌*◌, ◌<◌, ◌≤◌, true, map, get_or, refl, sym, ap, subst, ◌∙◌, arith, replicate}
 use Rattle.std.specs.Prelude.{slice_index_or, slice_set}
 use Rattle.std.specs.Vec.{with_item}
 use Rattle.std.proofs.Math.Seq.{map-set_same}

@@ -4,7 +4,7 @@ pub mod HeldLemmas
 pub mod KeptLemmas
 pub mod OrderLemmas
 pub mod PlaceLemmas
-pub mod RefusalLemmas
+pub mod CauseLemmas
 pub mod StockLemmas
 pub mod TakenLemmas
 pub mod TurnLemmas

@@ -1,22 +1,21 @@
 -- The places of a block's words.
-use Rattle.std.proofs.Common.{◌≡◌, ℕ, zero, suc, ◌+◌, ◌<◌, ◌≤◌, Bool, true, false, List, [], ◌∷◌, ◌++◌, length, map, filter, get_or, refl, sym, ap, ◌∙◌, arith, if◌then◌else◌}
+use Rattle.std.proofs.Common.{◌≡◌, ℕ, suc, ◌+◌, ◌<◌, ◌≤◌, Bool, true, false, List, [], ◌∷◌, ◌++◌, length, map, get_or, refl, sym, ap, ◌∙◌, arith, if◌then◌else◌}
 use Rattle.std.specs.Prelude.{nat_lt}
 use Rattle.std.proofs.lemmas.Bool.Decides.{nat_tests}
 use Rattle.std.proofs.lemmas.List.{get_or_append_left, get_or-map, length-map}
 use Rattle.std.proofs.Math.Seq.{get_or-append_seam}
 use Rattle.std.proofs.lemmas.List.FromFn.{length-map-range_with_len}
 use Rattle.std.proofs.lemmas.List.Sums.{count_by-le-length, length-filter}
-use Rattle.machine.specs.Places.{Home, homes_of, place_at, place_of_home, primary_last, primary_place, replica_count, written_place}
+use Rattle.machine.specs.Places.{Home, homes_of, place_at, place_of_home, primary_last, replica_count, written_place}
 use Rattle.machine.proofs.PlacesLemmas.{replica_count-is, replica_count-some}
 use Rattle.object_alloc.proofs.ViewLemmas.{IsView-of}
 use Rattle.object_alloc.specs.Parts.{pair_of, word_of, written_replica}
 use Rattle.object_alloc.specs.declared.places.Part.{Part}
 use Rattle.object_alloc.specs.declared.places.Part.TheVariants as part
 use Rattle.region_view.specs.Layout.{NodeWord, Slot, position_of, region_of_word}
-use Rattle.region_view.specs.Placed.{LeavesNoneBare, Viewed, in_mask, placed_node, placed_nodes, region_start, replicas_of}
+use Rattle.region_view.specs.Placed.{LeavesNoneBare, Viewed, in_mask, placed_node, placed_nodes, replicas_of}
 use Rattle.region_view.specs.Places.{word_places_of}
 use Rattle.region_view.specs.Sizes.{IsWithinLimits, Sizes}
-use Rattle.verb_words.specs.declared.verbs.Place.{Place}
 
 -- node and position of a word on each of its replicas
 pub pairs-on : (sizes : Sizes) (word : NodeWord) (nodes : List ℕ) → map (λ node. (node, position_of sizes word)) nodes ≡ map (pair_of sizes) (map (λ node. (node, word)) nodes)

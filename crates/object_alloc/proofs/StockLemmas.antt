@@ -1,13 +1,12 @@
 -- What holds of a stock stays so.
-use Rattle.std.proofs.Common.{◌≡◌, ◌≢◌, ℕ, zero, suc, ◌+◌, ◌*◌, ◌<◌, ◌≤◌, Bool, true, false, List, [], ◌∷◌, length, map, get_or, Option, Some, None, refl, sym, ap, subst, ◌∙◌, arith, length-append, replicate}
+use Rattle.std.proofs.Common.{◌≡◌, ℕ, zero, suc, ◌*◌, ◌<◌, ◌≤◌, true, length, get_or, Option, Some, None, refl, sym, subst, ◌∙◌, arith}
 use Rattle.std.specs.Prelude.{All, slice_index_or}
 use Rattle.std.specs.List.{IsDistinct}
 use Rattle.machine.specs.declared.choosing.Took.{Took}
-use Rattle.machine.specs.Choosing.{IsAt, IsChoosing, IsReady, IsTaken, begins, block_at, next, region_at, turn, turn_at, verb_at}
-use Rattle.machine.specs.EpochRead.{IsView}
+use Rattle.machine.specs.Choosing.{IsChoosing, IsReady, IsTaken, begins, next, turn, turn_at, verb_at}
 use Rattle.machine.specs.ObjectNames.{names_object}
-use Rattle.machine.specs.Places.{IsInPool, control}
-use Rattle.machine.specs.Stock.{AskFirst, Ask, Claim, ClassStock, IsClassStock, IsOwn, IsStock, OwnBlock, Phase, ReadBitmap, ReadBlock, Rest, Scan, Spread, Stock, WriteHead, class_stock, first_stock, is_own, no_stock, view_of}
+use Rattle.machine.specs.Places.{IsInPool}
+use Rattle.machine.specs.Stock.{AskFirst, Ask, Claim, ClassStock, IsClassStock, IsOwn, IsStock, OwnBlock, Phase, ReadBitmap, ReadBlock, Rest, Scan, Spread, Stock, WriteHead, class_stock, first_stock, no_stock, view_of}
 use Rattle.machine.specs.Turn.{Turn}
 use Rattle.machine.proofs.ChoosingLemmas.{IsTurned, begins-turned, next-inside, turn-turned}
 use Rattle.machine.proofs.ObjectNamesLemmas.{names_object-says}
@@ -18,7 +17,7 @@ use Rattle.object_alloc.proofs.OrderLemmas.{apart-room}
 use Rattle.object_alloc.proofs.ViewLemmas.{IsView-of}
 use Rattle.object_alloc.specs.Choosers.{IsFit, IsInside}
 use Rattle.object_alloc.specs.Classes.{HasUnit}
-use Rattle.object_alloc.specs.Held.{HasView, IsApart, IsHeld, IsNotOwn, IsOn}
+use Rattle.object_alloc.specs.Held.{HasView, IsApart, IsHeld, IsNotOwn}
 use Rattle.object_form.specs.declared.classes.TheConstants.{CLASSES}
 use Rattle.region_view.specs.Control.{EpochWord}
 use Rattle.region_view.specs.Placed.{LeavesNoneBare, Viewed}

@@ -1,5 +1,5 @@
 -- The next reserve of a class changes no block and nobody who is awaited.
-use Rattle.std.proofs.Common.{◌≡◌, ◌≢◌, ℕ, zero, suc, ◌+◌, ◌<◌, ◌≤◌, ◌⊎◌, inl, inr, Bool, true, false, ◌||◌, ◌==◌, List, [], ◌∷◌, length, map, get_or, refl, sym, ap, subst, ◌∙◌, arith}
+use Rattle.std.proofs.Common.{◌≡◌, ◌≢◌, ℕ, zero, suc, ◌<◌, ◌⊎◌, inl, inr, Bool, true, false, ◌||◌, ◌==◌, List, [], ◌∷◌, length, map, get_or, refl, sym, ap, subst, ◌∙◌, arith}
 use Rattle.std.specs.Prelude.{All, slice_index_or, slice_set}
 use Rattle.std.specs.List.{list_any}
 use Rattle.std.proofs.lemmas.Bool.Decides.{eqb_tells}
@@ -10,7 +10,7 @@ use Rattle.machine.specs.Stock.{AskFirst, Ask, Claim, ClassStock, IsStock, OwnBl
 use Rattle.machine.proofs.ChoosingLemmas.{taken-is}
 use Rattle.object_alloc.proofs.HeldLemmas.{apart-map, set-apart}
 use Rattle.object_alloc.proofs.StockLemmas.{fit-of}
-use Rattle.object_alloc.specs.Held.{HasView, IsApart, IsHeld, IsOn}
+use Rattle.object_alloc.specs.Held.{HasView, IsHeld, IsOn}
 use Rattle.object_form.specs.declared.classes.TheConstants.{CLASSES}
 use Rattle.reuse_epoch.specs.Awaited.{client_of}
 

@@ -1,12 +1,11 @@
 -- What a turn of the program needs of its stock.
-use Rattle.std.proofs.Common.{◌≡◌, ℕ, ◌+◌, ◌*◌, ◌<◌, ◌≤◌, Bool, arith, length, refl, sym, subst}
-use Rattle.std.specs.Prelude.{slice_index_or}
+use Rattle.std.proofs.Common.{◌≡◌, ℕ, ◌+◌, ◌<◌, ◌≤◌, Bool, arith, length, refl, sym, subst}
 use Rattle.machine.specs.Choosing.{IsAt, turn_at, verb_at, word_at_block}
 use Rattle.machine.specs.declared.choosing.Took.TheVariants.{Refused}
 use Rattle.machine.specs.Stock.{AskFirst, Ask, Claim, Phase, ReadBitmap, ReadBlock, Rest, Scan, Spread, Stock, WriteHead, class_stock, view_of}
 use Rattle.object_alloc.proofs.PlaceLemmas.{replica_count_few}
 use Rattle.object_alloc.proofs.StockLemmas.{room_left}
-use Rattle.object_alloc.specs.Choosers.{HasRoom, IsInside, phase_of, rooms_of, stock_of}
+use Rattle.object_alloc.specs.Choosers.{HasRoom, IsInside, phase_of, stock_of}
 use Rattle.object_alloc.specs.Held.{IsHeld, IsNotOwn, IsRoomy}
 use Rattle.object_alloc.specs.declared.choosers.Chooser.{Chooser}
 use Rattle.object_alloc.specs.declared.choosers.Phase.TheVariants as phase

@@ -1,8 +1,8 @@
 -- A change of a bit of the program as one of the machine.
-use Rattle.std.specs.Prelude.{◌≡◌, ℕ, ◌+◌, ◌^◌, ◌<◌, ◌≤◌, Bool}
+use Rattle.std.specs.Prelude.{ℕ, ◌^◌, ◌<◌, ◌≤◌, Bool}
 use Rattle.machine.specs.BitChange as machine
 use Rattle.machine.specs.BitChange.{BitChange, IsBitChange}
-use Rattle.machine.specs.ObjectNames.{bitmap_of, block_of}
+use Rattle.machine.specs.ObjectNames.{block_of}
 use Rattle.object_alloc.specs.declared.bits.Phase.{Phase}
 use Rattle.object_alloc.specs.declared.bits.Phase.TheVariants as phase
 use Rattle.pointer_fields.specs.Pointer.{region_of, unit_of}

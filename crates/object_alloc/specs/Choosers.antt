@@ -1,5 +1,5 @@
 -- A chooser of the program as a stock of the machine.
-use Rattle.std.specs.Prelude.{◌≡◌, ℕ, ◌*◌, ◌<◌, ◌≤◌, List, length, map, slice_index_or}
+use Rattle.std.specs.Prelude.{◌≡◌, ℕ, ◌*◌, ◌<◌, List, length, map, slice_index_or}
 use Rattle.machine.specs.declared.choosing.Took.{Took}
 use Rattle.machine.specs.Stock as machine
 use Rattle.machine.specs.Stock.{Stock, class_stock}

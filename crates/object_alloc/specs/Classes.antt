@@ -1,5 +1,5 @@
 -- What the program has of one class, as the machine's stock of a class.
-use Rattle.std.specs.Prelude.{ℕ, ◌+◌, ◌*◌, ◌^◌, ◌<◌, ◌≤◌, ◌&&◌, ◌==◌, if◌then◌else◌, Option, Some, None, slice_index_or, slice_set}
+use Rattle.std.specs.Prelude.{ℕ, ◌^◌, ◌<◌, ◌≤◌, ◌&&◌, ◌==◌, if◌then◌else◌, Option, Some, None, slice_index_or, slice_set}
 use Rattle.std.specs.Int.{trailing_zeros, w64}
 use Rattle.std.specs.Vec.{vec_capacity}
 use Rattle.machine.specs.Choosing.{no_block}

@@ -7,7 +7,7 @@ use Rattle.object_alloc.specs.Choosers.{IsFit, rooms_of, stock_of}
 use Rattle.object_alloc.specs.declared.choosers.Chooser.{Chooser}
 use Rattle.object_form.specs.declared.classes.TheConstants.{CLASSES}
 use Rattle.region_view.specs.Placed.{LeavesNoneBare}
-use Rattle.region_view.specs.Sizes.{IsWithinLimits, Sizes}
+use Rattle.region_view.specs.Sizes.{Sizes}
 use Rattle.reuse_epoch.specs.Awaited.{client_of}
 
 -- the number of a block in the pool, where regions and blocks rise

@@ -1,4 +1,5 @@
 pub mod Bits
+pub mod Causes
 pub mod Choosers
 pub mod Classes
 pub mod Held

@@ -3,7 +3,8 @@ ghost use Rattle.machine.specs.Choosing.{IsTaken, begins, next, taken, turn};
 ghost use Rattle.machine.specs.ObjectNames.{names_object};
 ghost use Rattle.machine.specs.Places.{IsInPool};
 ghost use Rattle.machine.specs.Stock.{first_stock, no_stock};
-ghost use Rattle.machine.specs.declared.choosing.Took.TheVariants.{Refused};
+ghost use Rattle.machine.specs.declared.choosing.Took.TheVariants.{Have, NoSpace, Refused};
+ghost use Rattle.object_alloc.specs.Causes.{HasObjects, IsSpent};
 ghost use Rattle.object_alloc.specs.Classes.{class_of, room_of};
 ghost use Rattle.object_form.specs.declared.classes.TheConstants.{CLASSES};
 ghost use Rattle.verb_words.specs.Verb.{place_of};
@@ -72,6 +73,8 @@ impl Stock {
         ensures told { result ≡ (begins self.old view.mask class).told }
         ensures taken { IsTaken view.shape class result }
         ensures same { (self.new.shape ≡ self.old.shape) × (self.new.class ≡ class) }
+        ensures have { (object next : ℕ) → result ≡ Have object next
+            → HasObjects self.new object next }
     {
         self.chooser.begins(view.mask, class)
     }
@@ -100,6 +103,10 @@ impl Stock {
         ensures told { result ≡ (turn self.old answer).told }
         ensures taken { IsTaken self.old.shape self.old.class result }
         ensures same { (self.new.shape ≡ self.old.shape) × (self.new.class ≡ self.old.class) }
+        ensures have { (object next : ℕ) → result ≡ Have object next
+            → HasObjects self.new object next }
+        ensures no_space { (class client begin : ℕ) → result ≡ NoSpace class client begin
+            → IsSpent self.new class client begin }
         ensures refused { (node : ℕ) → (result ≡ Refused node)
             ↔ ((answer ≡ Lost) × (node ≡ (place_of (next self.old)).node)) }
     {

@@ -1,5 +1,4 @@
-use Rattle.std.proofs.Common.{ap, ◌∙◌, rules}
-use Rattle.object_alloc.proofs.ChooserLemmas.{here-is, here-reserve, with_class-fit, with_class-rooms, with_class-state}
+use Rattle.object_alloc.proofs.ChooserLemmas.{here-reserve, with_class-fit}
 use Rattle.object_alloc.proofs.choosers.Chooser.await_nobody.Goals as goal
 
 pub returns-clause-fit : goal.returns-clause-fit

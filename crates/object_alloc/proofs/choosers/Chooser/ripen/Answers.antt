@@ -1,5 +1,5 @@
 use Rattle.std.proofs.Common.{ap, subst, sym, ◌∙◌}
-use Rattle.object_alloc.proofs.ChooserLemmas.{here-is, here-reserve, with_class-fit, with_class-rooms, with_class-state}
+use Rattle.object_alloc.proofs.ChooserLemmas.{here-is, here-reserve, with_class-fit, with_class-state}
 use Rattle.machine.specs.Stock as machine
 use Rattle.machine.specs.Stock.{class_stock, ripened}
 use Rattle.object_alloc.specs.Choosers.{stock_of}

@@ -1,5 +1,5 @@
 use Rattle.object_alloc.proofs.KeptLemmas.{after-kept, after-same, after-taken}
-use Rattle.object_alloc.proofs.RefusalLemmas.{after-refused}
+use Rattle.object_alloc.proofs.CauseLemmas.{after-has, after-refused, after-spent}
 use Rattle.object_alloc.proofs.stocks.Stock.after.Goals as goal
 
 pub invariant_of-self : goal.invariant_of-self
@@ -13,3 +13,9 @@ returns-clause-refused c = λ node. after-refused c.self.inside.chooser c.after.
 
 pub returns-clause-same : goal.returns-clause-same
 returns-clause-same c = after-same c.self.inside.chooser c.after.new.self c.args.self.now c.after.result c.args.answer c.self.invariant c.self.view_is c.after.ensures.turn
+
+pub returns-clause-have : goal.returns-clause-have
+returns-clause-have c = λ object next is. after-has c.self.inside.chooser c.after.new.self c.after.result c.args.answer object next c.after.ensures.turn is
+
+pub returns-clause-no_space : goal.returns-clause-no_space
+returns-clause-no_space c = λ class client begin is. after-spent c.self.inside.chooser c.after.new.self c.after.result c.args.answer class client begin c.after.ensures.turn is

@@ -1,4 +1,4 @@
-use Rattle.std.proofs.Common.{ap, rules}
+use Rattle.std.proofs.Common.{rules}
 use Rattle.object_alloc.proofs.KeptLemmas.{first-kept}
 use Rattle.object_alloc.proofs.stocks.Stock.new.Goals as goal
 
