@@ -6,7 +6,7 @@ use Rattle.std.proofs.lemmas.Bool.Decides.{nat_tests}
 use Rattle.block_alloc.specs.declared.BlockWord.{BlockWord}
 use Rattle.block_alloc.specs.declared.BlockWord.TheVariants.{Unused, Owned, Released}
 use Rattle.block_alloc.specs.BlockWord.{block_in}
-use Rattle.machine.specs.Choosing.{asked, asks_after, asks_from, at_block, begins, block_at, chooses, first_awaited, looks, next, next_block, not_awaited, on_block, on_block_word, on_first, on_scan, owns, region_at, scanned_all, spreads_from, takes, turn, turn_at, with_awaited, with_block, with_scanned, word_at_block}
+use Rattle.machine.specs.Choosing.{asked, asks_after, asks_from, at_block, block_at, chooses, first_awaited, looks, next, next_block, not_awaited, on_block, on_block_word, on_first, on_scan, owns, region_at, scanned_all, spreads_from, takes, turn, turn_at, with_awaited, with_block, with_scanned, word_at_block}
 use Rattle.machine.specs.declared.choosing.Took.{Took}
 use Rattle.machine.specs.declared.choosing.Took.TheVariants.{Going, Have, NoSpace, Refused}
 use Rattle.machine.specs.Places.{replica_count}
@@ -209,11 +209,3 @@ pub after-spent : (before after : Chooser) (told : Took) (answer : Answer) (clas
 after-spent before after told answer class client begin is none =
     subst (λ s. IsSpent s class client begin) (sym (ap (λ (t : Turn Stock Took). t.state) is))
     (answer-caused (stock_of before) answer (NoSpace class client begin) (sym none ∙ ap (λ (t : Turn Stock Took). t.told) is) (λ node. λ same. cc))
-
--- a new choosing tells at once what it takes, where there is a reserve and another ripe object, and else goes on
-pub begun-has : (before after : Chooser) (told : Took) (mask class object next : ℕ) → turn_of after told ≡ begins (stock_of before) mask class → told ≡ Have object next → HasObjects (stock_of after) object next
-begun-has before after told mask class object next is has =
-    let caused = chooses-caused (record (stock_of before) { mask = mask; class = class; scanned = false; position = 0 }) in
-    let state = ap (λ (t : Turn Stock Took). t.state) is in
-    let same = sym has ∙ ap (λ (t : Turn Stock Took). t.told) is in
-    subst (λ s. HasObjects s object next) (sym state) (subst (λ t. Causes t (begins (stock_of before) mask class).state) (sym same) caused)

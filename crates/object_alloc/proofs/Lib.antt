@@ -1,3 +1,4 @@
+pub mod BeginLemmas
 pub mod BitLemmas
 pub mod ChooserLemmas
 pub mod HeldLemmas

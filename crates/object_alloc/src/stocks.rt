@@ -1,9 +1,9 @@
-ghost use Rattle.std.specs.Prelude.{◌≡◌, ◌↔◌, ℕ, ◌<◌, ◌≤◌, IfOk, map, replicate, true};
+ghost use Rattle.std.specs.Prelude.{◌≡◌, ◌↔◌, ◌⊎◌, ℕ, ◌<◌, ◌≤◌, IfOk, map, replicate, true};
 ghost use Rattle.machine.specs.Choosing.{IsTaken, begins, next, taken, turn};
 ghost use Rattle.machine.specs.ObjectNames.{names_object};
 ghost use Rattle.machine.specs.Places.{IsInPool};
 ghost use Rattle.machine.specs.Stock.{first_stock, no_stock};
-ghost use Rattle.machine.specs.declared.choosing.Took.TheVariants.{Have, NoSpace, Refused};
+ghost use Rattle.machine.specs.declared.choosing.Took.TheVariants.{Going, Have, NoSpace, Refused};
 ghost use Rattle.object_alloc.specs.Causes.{HasObjects, IsSpent};
 ghost use Rattle.object_alloc.specs.Classes.{class_of, room_of};
 ghost use Rattle.object_form.specs.declared.classes.TheConstants.{CLASSES};
@@ -73,8 +73,10 @@ impl Stock {
         ensures told { result ≡ (begins self.old view.mask class).told }
         ensures taken { IsTaken view.shape class result }
         ensures same { (self.new.shape ≡ self.old.shape) × (self.new.class ≡ class) }
-        ensures have { (object next : ℕ) → result ≡ Have object next
-            → HasObjects self.new object next }
+        ensures have { (object next : ℕ) → (result ≡ Have object next)
+            ↔ HasObjects (record self.old { class = class }) object next }
+        ensures else_goes { (result ≡ Going)
+            ⊎ ((object : ℕ) × (next : ℕ) × (result ≡ Have object next)) }
     {
         self.chooser.begins(view.mask, class)
     }

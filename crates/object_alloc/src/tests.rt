@@ -87,7 +87,14 @@ fn four_choosings_give_four_objects(rt: HostRuntime) -> Result<(), Fail> {
         assert_eq!(rt; object, expected);
         let mut clear = change(view, object, 3, false, false);
         assert_eq!(rt; finish(&rt, &mut nodes, &mut clear), Changed::Whole);
+        let mut again = change(view, object, 3, false, true);
+        assert_eq!(rt; finish(&rt, &mut nodes, &mut again), Changed::Whole);
         stock.taken(3, next);
     }
+
+    // Each of the four objects is out of stock on both nodes, and a change that looks added nothing.
+    let left = Answer::Word(u64::MAX - 0xf);
+    assert_eq!(rt; apply(&rt, &mut nodes, Verb::Read(BITMAPS[0])), left);
+    assert_eq!(rt; apply(&rt, &mut nodes, Verb::Read(BITMAPS[1])), left);
     Ok(())
 }
