@@ -6,7 +6,7 @@ use Rattle.machine.specs.Places.{IsInPool}
 use Rattle.machine.proofs.BitChangeLemmas.{bit_change_of-is}
 use Rattle.machine.proofs.ObjectNamesLemmas.{bitmap_of-has, names_object-says}
 use Rattle.machine.proofs.PlacesLemmas.{written_place-inside}
-use Rattle.object_alloc.proofs.ViewLemmas.{IsView-of}
+use Rattle.machine.proofs.ViewLemmas.{IsView-of}
 use Rattle.object_alloc.specs.Bits.{IsHeld, change_of, phase_of}
 use Rattle.object_alloc.specs.declared.bits.Phase.{Phase}
 use Rattle.object_form.specs.declared.classes.TheConstants.{CLASSES}

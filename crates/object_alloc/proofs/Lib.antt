@@ -9,5 +9,4 @@ pub mod CauseLemmas
 pub mod StockLemmas
 pub mod TakenLemmas
 pub mod TurnLemmas
-pub mod ViewLemmas
 pub mod TestLemmas

@@ -4,29 +4,23 @@ use Rattle.std.specs.Prelude.{nat_lt}
 use Rattle.std.proofs.lemmas.Bool.Decides.{nat_tests}
 use Rattle.std.proofs.lemmas.List.{get_or_append_left, get_or-map, length-map}
 use Rattle.std.proofs.Math.Seq.{get_or-append_seam}
-use Rattle.std.proofs.lemmas.List.FromFn.{length-map-range_with_len}
-use Rattle.std.proofs.lemmas.List.Sums.{count_by-le-length, length-filter}
-use Rattle.machine.specs.Places.{Home, homes_of, place_at, place_of_home, primary_last, replica_count, written_place}
+use Rattle.machine.specs.Places.{Home, homes_of, pair_of, place_at, place_of_home, primary_last, replica_count, written_place}
+use Rattle.machine.proofs.PlacePairLemmas.{homes_of-places, replicas_of-few}
 use Rattle.machine.proofs.PlacesLemmas.{replica_count-is, replica_count-some}
-use Rattle.object_alloc.proofs.ViewLemmas.{IsView-of}
-use Rattle.object_alloc.specs.Parts.{pair_of, word_of, written_replica}
+use Rattle.machine.proofs.ViewLemmas.{IsView-of}
+use Rattle.object_alloc.specs.Parts.{word_of, written_replica}
 use Rattle.object_alloc.specs.declared.places.Part.{Part}
 use Rattle.object_alloc.specs.declared.places.Part.TheVariants as part
-use Rattle.region_view.specs.Layout.{NodeWord, Slot, position_of, region_of_word}
-use Rattle.region_view.specs.Placed.{LeavesNoneBare, Viewed, in_mask, placed_node, placed_nodes, replicas_of}
+use Rattle.region_view.specs.Layout.{NodeWord, Slot, region_of_word}
+use Rattle.region_view.specs.Placed.{LeavesNoneBare, Viewed}
 use Rattle.region_view.specs.Places.{word_places_of}
 use Rattle.region_view.specs.Sizes.{IsWithinLimits, Sizes}
 
--- node and position of a word on each of its replicas
-pub pairs-on : (sizes : Sizes) (word : NodeWord) (nodes : List ℕ) → map (λ node. (node, position_of sizes word)) nodes ≡ map (pair_of sizes) (map (λ node. (node, word)) nodes)
-pairs-on sizes word [] = refl
-pairs-on sizes word (node ∷ nodes) = ap (λ rest. (node, position_of sizes word) ∷ rest) (pairs-on sizes word nodes)
-
 pub owner_pairs : (view : Viewed) (region block : ℕ) → word_places_of view region block ≡ map (pair_of view.shape) (homes_of view (word_of part.Owner region block))
-owner_pairs view region block = pairs-on view.shape (word_of part.Owner region block) (replicas_of view region)
+owner_pairs view region block = sym (homes_of-places view (word_of part.Owner region block))
 
 pub bitmap_pairs : (view : Viewed) (region block : ℕ) → word_places_of view region (64 + block) ≡ map (pair_of view.shape) (homes_of view (word_of part.Bitmap region block))
-bitmap_pairs view region block = pairs-on view.shape (word_of part.Bitmap region block) (replicas_of view region)
+bitmap_pairs view region block = sym (homes_of-places view (word_of part.Bitmap region block))
 
 -- a place of a word, read from the pairs
 pub pair-place : (sizes : Sizes) (homes : List Home) (i : ℕ) (pairs : List (ℕ × ℕ)) → pairs ≡ map (pair_of sizes) homes → i < length homes
@@ -35,14 +29,8 @@ pair-place sizes homes i pairs are below =
     let one : get_or pairs i (0, 0) ≡ pair_of sizes (get_or homes i (0, Slot 0)) = ap (λ l. get_or l i (0, 0)) are ∙ get_or-map (pair_of sizes) homes i (0, Slot 0) (0, 0) below in
     ap (λ (pair : ℕ × ℕ). record { node = pair.0; at = pair.1 }) one
 
-few_replicas : (view : Viewed) (region : ℕ) → IsWithinLimits view.shape → length (replicas_of view region) ≤ 5
-few_replicas view region limits =
-    let f : ℕ → ℕ = placed_node view.shape region in
-    let few = limits.replicas in
-    omega (arith, length-map-range_with_len f 0 view.shape.replicas, length-filter (in_mask view.mask) (placed_nodes view.shape region), count_by-le-length (in_mask view.mask) (placed_nodes view.shape region))
-
 pub replica_count_few : (view : Viewed) (word : NodeWord) → IsWithinLimits view.shape → replica_count view word ≤ 5
-replica_count_few view word limits = let few = few_replicas view (region_of_word word) limits in omega (arith, replica_count-is view word)
+replica_count_few view word limits = let few = replicas_of-few view (region_of_word word) limits in omega (arith, replica_count-is view word)
 
 -- the i-th place at which a word is written is the place of a replica
 written_home : (homes : List Home) (i : ℕ) (d : Home) → i < length homes → get_or homes (written_replica i (length homes)) d ≡ get_or (primary_last homes) i d

@@ -14,7 +14,7 @@ use Rattle.machine.proofs.PlacesLemmas.{control-inside}
 use Rattle.machine.proofs.StockLemmas.{first_stock-is}
 use Rattle.object_alloc.proofs.HeldLemmas.{IsBase, IsOrderly, begins-orderly, gained-apart, turn-orderly}
 use Rattle.object_alloc.proofs.OrderLemmas.{apart-room}
-use Rattle.object_alloc.proofs.ViewLemmas.{IsView-of}
+use Rattle.machine.proofs.ViewLemmas.{IsView-of}
 use Rattle.object_alloc.specs.Choosers.{IsFit, IsInside}
 use Rattle.object_alloc.specs.Classes.{HasUnit}
 use Rattle.object_alloc.specs.Held.{HasView, IsApart, IsHeld, IsNotOwn}

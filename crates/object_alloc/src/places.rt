@@ -1,6 +1,6 @@
 ghost use Rattle.std.specs.Prelude.{◌≡◌, ◌+◌, ◌<◌, ◌≤◌, length, map};
-ghost use Rattle.machine.specs.Places.{homes_of, place_at, primary_place, replica_count, written_place};
-ghost use Rattle.object_alloc.specs.Parts.{pair_of, word_of, written_replica};
+ghost use Rattle.machine.specs.Places.{homes_of, pair_of, place_at, primary_place, replica_count, written_place};
+ghost use Rattle.object_alloc.specs.Parts.{word_of, written_replica};
 
 use arrayvec::ArrayVec;
 use region_view::{View, word_places};
