@@ -1,0 +1,12 @@
+pub mod BeginLemmas
+pub mod BitLemmas
+pub mod ChooserLemmas
+pub mod HeldLemmas
+pub mod KeptLemmas
+pub mod OrderLemmas
+pub mod PlaceLemmas
+pub mod CauseLemmas
+pub mod StockLemmas
+pub mod TakenLemmas
+pub mod TurnLemmas
+pub mod TestLemmas

@@ -1,0 +1,13 @@
+use Rattle.std.proofs.Common.{◌≡◌, ◌++◌, drop, map, take}
+use Rattle.machine.specs.Stock.{ripened_block}
+use Rattle.object_alloc.specs.Classes.{room_of}
+use Rattle.object_alloc.proofs.blocks.ClassStock.ripen.Given as goal
+
+abbrev pub invariant-loop-i : goal.invariant-loop-i
+invariant-loop-i l = record {
+  own : l.self.own.items ≡ map ripened_block (take l.i l.fn.self.own.items) ++ drop l.i l.fn.self.own.items;
+  room : room_of l.self ≡ room_of l.fn.self;
+  reserve : l.self.reserve ≡ l.fn.self.reserve;
+  awaited : l.self.awaited ≡ l.fn.self.awaited;
+  long : l.self.own.len ≡ l.fn.self.own.len;
+}
