@@ -1,12 +1,12 @@
 -- The terms of leases, as the words of a call give them.
-use Rattle.std.proofs.Common.{◌≡◌, ℕ, ◌+◌, ◌*◌, ◌<◌, ◌≤◌, ◌==◌, Bool, true, false, ◌&&◌, List, [], ◌∷◌, length, Some, None, refl, sym, ap, subst, ◌∙◌, arith}
+use Rattle.std.proofs.Common.{◌≡◌, ℕ, ◌*◌, ◌<◌, ◌≤◌, ◌==◌, Bool, true, false, ◌&&◌, List, [], ◌∷◌, length, Some, None, refl, ap, subst, arith}
 use Rattle.std.specs.Prelude.{Option, MatchOption, if◌then◌else◌, nat_lt, nat_le, bytes_eq, codes}
 use Rattle.std.proofs.lemmas.Bool.{false≢true}
 use Rattle.std.proofs.lemmas.Bool.Decides.{nat_tests}
 use Rattle.lease_core.specs.Terms.{Agreed, AreTerms, agreed}
 use Rattle.lease_core.specs.declared.lease_terms.TheConstants.{LONGEST}
 use Rattle.fusee_top.specs.Options.{option_values}
-use Rattle.fusee_top.specs.Words.{are_terms, command_of, leases_of, leases_under, lone, named_command, terms_in, under_terms}
+use Rattle.fusee_top.specs.Words.{are_terms, command_of, leases_of, leases_under, lone, terms_in, under_terms}
 use Rattle.fusee_top.specs.declared.commands.Command.{Command}
 use Rattle.fusee_top.specs.declared.commands.Command.TheVariants as command
 

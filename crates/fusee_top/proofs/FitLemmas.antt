@@ -1,5 +1,5 @@
 -- The lines of a run fit: its one client makes one call after the other.
-use Rattle.std.proofs.Common.{◌≡◌, ◌≢◌, ℕ, zero, suc, ◌+◌, ◌<◌, ◌≤◌, ◌⊎◌, inl, inr, List, [], ◌∷◌, ◌++◌, length, take, map, Some, refl, sym, ap, subst, ◌∙◌, append_assoc, append-nil, arith, Bool, true, false}
+use Rattle.std.proofs.Common.{◌≡◌, ℕ, zero, suc, ◌+◌, ◌<◌, ◌≤◌, inl, inr, List, [], ◌∷◌, ◌++◌, length, take, map, Some, refl, sym, subst, ◌∙◌, append_assoc, append-nil, arith, Bool, true, false}
 use Rattle.std.specs.Prelude.{slice_get}
 use Rattle.std.specs.List.{flat_map}
 use Rattle.map_model.specs.declared.calls.Call.{Call}
@@ -67,10 +67,13 @@ invoked_stopped trace number call is = elim (get-push trace (Invoked 1 number ca
 ]
 
 may_return : (trace : List Moment) (count : ℕ) (call : Call) → Quiet trace count → MayReturn (trace ++ Invoked 1 (count + 1) call ∷ []) 1 (count + 1)
-may_return trace count call quiet =
-    (((length trace, call, get-last trace (Invoked 1 (count + 1) call)),
-    (λ back. let few = quiet.returned (count + 1) (invoked_returned trace (count + 1) (count + 1) call back) in omega arith)),
-    (λ is. quiet.runs (invoked_stopped trace (count + 1) call is)))
+may_return trace count call quiet = (
+  (
+    (length trace, call, get-last trace (Invoked 1 (count + 1) call)),
+    (λ back. let few = quiet.returned (count + 1) (invoked_returned trace (count + 1) (count + 1) call back) in omega arith),
+  ),
+  (λ is. quiet.runs (invoked_stopped trace (count + 1) call is)),
+)
 
 -- once it returned
 module _ (trace : List Moment) (count : ℕ) (call : Call) (reply : Reply) (quiet : Quiet trace count) where
@@ -112,11 +115,15 @@ module _ (trace : List Moment) (count : ℕ) (call : Call) (reply : Reply) (quie
   within_trace (suc at) (x ∷ xs) moment is = let less = within_trace at xs moment is in omega arith
 
   latest_then : IsLatest (open_trace ++ Returned 1 (count + 1) reply ∷ []) 1 (count + 1)
-  latest_then = (length trace, call, get-left open_trace (Returned 1 (count + 1) reply ∷ []) (length trace) _ (get-last trace (Invoked 1 (count + 1) call)),
+  latest_then = (
+    length trace,
+    call,
+    get-left open_trace (Returned 1 (count + 1) reply ∷ []) (length trace) _ (get-last trace (Invoked 1 (count + 1) call)),
     (λ other number other_call is. elim (get-push trace (Invoked 1 (count + 1) call) other (Invoked 1 number other_call) (call_before number (other, other_call, is))) [
       | inl before ↦ let less = within_trace other trace _ before in omega arith
       | inr here ↦ let place = here.0 in omega arith
-    ]))
+    ]),
+  )
 
   quiet_then : Quiet (open_trace ++ Returned 1 (count + 1) reply ∷ []) (count + 1)
   quiet_then = record { called = called_then; returned = returned_then; runs = runs_then; next = inl (count + 1, latest_then, refl) }
@@ -146,9 +153,13 @@ calls_fit : (past : List Moment) (map : Map) (count : ℕ) (calls : List Call) (
 calls_fit past there count [] entries quiet = history_fits past entries
 calls_fit past there count (call ∷ calls) entries quiet =
     let called : Call = audit.call_of (shown_call call) in
-    let reply : Reply = audit.reply_of (shown_reply (reply_of there call)) in
-    (may_call past count quiet, (may_return past count called quiet,
-    calls_fit ((past ++ Invoked 1 (count + 1) called ∷ []) ++ Returned 1 (count + 1) reply ∷ []) (after there call (reply_of there call)) (count + 1) calls entries (quiet_then past count called reply quiet)))
+    let reply : Reply = audit.reply_of (shown_reply (reply_of there call)) in (
+      may_call past count quiet,
+      (
+        may_return past count called quiet,
+        calls_fit ((past ++ Invoked 1 (count + 1) called ∷ []) ++ Returned 1 (count + 1) reply ∷ []) (after there call (reply_of there call)) (count + 1) calls entries (quiet_then past count called reply quiet),
+      ),
+    )
 
 registered_fit : (registers : Bool) (lines : List OutLine) → FitsFrom [] lines → FitsFrom [] (client_lines registers ++ lines)
 registered_fit true lines fits = (tt, fits)

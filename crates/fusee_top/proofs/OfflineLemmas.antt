@@ -1,11 +1,9 @@
 -- The statuses of the top call, from what it met.
-use Rattle.std.proofs.Common.{◌≡◌, ◌≢◌, ℕ, ◌<◌, ◌≤◌, Bool, true, false, ◌⊎◌, inl, inr, List, ◌++◌, length, Some, None, refl, sym, ap, subst, ◌∙◌, arith, length-append}
-use Rattle.std.specs.Prelude.{Option, Result, Ok, Err, nat_lt, codes, if◌then◌else◌}
+use Rattle.std.proofs.Common.{◌≡◌, ◌≢◌, ℕ, ◌<◌, ◌≤◌, Bool, true, false, ◌⊎◌, inl, inr, List, ◌++◌, length, Some, None, refl, sym, ap, ◌∙◌, arith, length-append}
+use Rattle.std.specs.Prelude.{Option, Result, Ok, Err, nat_lt, if◌then◌else◌}
 use Rattle.std.specs.Io.KnownBytes.{Consumes, IsAtEnd}
-use Rattle.std.proofs.lemmas.Bool.{false≢true}
 use Rattle.std.proofs.lemmas.Bool.Decides.{nat_tests}
 use Rattle.std.proofs.lemmas.List.{append-nil}
-use Rattle.outside.specs.Faults.{Rose}
 use Rattle.lease_core.specs.Grammar.{events_from}
 use Rattle.lease_core.specs.Terms.{Agreed, AreTerms}
 use Rattle.lease_core.specs.declared.lease_lines.LeaseLine.{LeaseLine}
@@ -22,15 +20,14 @@ use Rattle.script_text.specs.declared.faults.BadKind.{BadKind}
 use Rattle.fusee_top.specs.Notices.{bad_line_text}
 use Rattle.fusee_top.specs.Verdict.{verdict_text}
 use Rattle.fusee_top.specs.Course.{Concludes, Ends, Starves, EndsIn, SinkCourse, SourceCourse, ReadFailed, WriteFailed, Wrote}
-use Rattle.fusee_top.specs.Endings.{Comes, Ending, IsOutputEnding, Ran, Told, ending_status, ending_text, events_ending, leases_ending, output_status, read_ending, script_ending, sized_ending, small_ending, status_of}
-use Rattle.fusee_top.specs.Input.{GaveMore, WasAll}
-use Rattle.fusee_top.specs.Offline.{Answers, HasBadLine, HasReadFault, HasTooManyBytes, HasTooManyWords, HasUsage, IsAccepted, IsNotBuilt, IsStatus, IsTooLarge, Meets, Outcome, RanAudit, RanLeases, RanScript, ReadFault, TooLarge, Usage, Whole, input_status, outcome_ending}
+use Rattle.fusee_top.specs.Endings.{Comes, Ending, IsOutputEnding, Ran, Told, ending_status, ending_text, events_ending, output_status, read_ending, small_ending, status_of}
+use Rattle.fusee_top.specs.Input.{WasAll}
+use Rattle.fusee_top.specs.Offline.{Answers, HasBadLine, HasReadFault, HasTooManyWords, HasUsage, IsAccepted, IsNotBuilt, IsStatus, IsTooLarge, Meets, Outcome, RanAudit, RanLeases, RanScript, ReadFault, TooLarge, Usage, Whole, input_status, outcome_ending}
 use Rattle.fusee_top.specs.Run.{lines_of}
 use Rattle.fusee_top.specs.Sizes.{shape_words}
 use Rattle.fusee_top.specs.Small.{SmallPlan, small_plan_of}
 use Rattle.fusee_top.specs.declared.commands.Command.{Command}
 use Rattle.fusee_top.specs.declared.commands.Command.TheVariants as command
-use Rattle.fusee_top.specs.declared.notices.Notice.{Notice}
 use Rattle.fusee_top.specs.declared.notices.Notice.TheVariants as notice
 use Rattle.fusee_top.specs.declared.reading.TheConstants.{LIMIT}
 use Rattle.fusee_top.specs.declared.scripts.TheConstants.{MOST_WORDS}

@@ -3,7 +3,7 @@ use Rattle.std.proofs.Common.{◌≡◌, ℕ, ◌+◌, ◌≤◌, suc, List, [],
 use Rattle.std.specs.Prelude.{Option, Result, if◌then◌else◌}
 use Rattle.std.specs.Result.{result_err}
 use Rattle.script_text.specs.OutputForm.{line_of}
-use Rattle.script_text.specs.OutputRead.{Bad, at_text_end, followed, is_closed, led_by, output_of, placed, read_from, stage_after}
+use Rattle.script_text.specs.OutputRead.{Bad, followed, is_closed, led_by, output_of, placed, read_from, stage_after}
 use Rattle.script_text.specs.ScriptForm.{Fault, Plan, reading_of}
 use Rattle.script_text.specs.ScriptRead.{IsParsed, plan_of}
 use Rattle.script_text.specs.declared.faults.BadKind.{BadKind}

@@ -23,7 +23,7 @@ use Rattle.trace_audit.specs.declared.verdicts.Verdict.TheVariants.{Linear}
 use Rattle.fusee_top.specs.Course.{Ends, SinkCourse, SourceCourse, ReadFailed, Starves, Wrote}
 use Rattle.fusee_top.specs.Endings.{Comes, Ending, Told, ending_status, ending_text, status_of}
 use Rattle.fusee_top.specs.Input.{GaveMore, WasAll}
-use Rattle.fusee_top.specs.Notices.{bad_line_text, notice_text}
+use Rattle.fusee_top.specs.Notices.{bad_line_text}
 use Rattle.fusee_top.specs.Run.{lines_of}
 use Rattle.fusee_top.specs.Sizes.{shape_words}
 use Rattle.fusee_top.specs.declared.scripts.TheConstants.{MOST_WORDS}

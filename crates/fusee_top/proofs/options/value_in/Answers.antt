@@ -1,4 +1,4 @@
-use Rattle.std.proofs.Common.{sym, ap, ◌∙◌}
+use Rattle.std.proofs.Common.{ap, ◌∙◌}
 use Rattle.clap.specs.Matches.{found_of}
 use Rattle.fusee_top.specs.Options.{value_of}
 use Rattle.fusee_top.proofs.OptionLemmas.{value_in-none, value_in-some}
