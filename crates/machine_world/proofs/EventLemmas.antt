@@ -1,15 +1,16 @@
 -- What each kind of event changes, and what it leaves.
-use Rattle.std.proofs.Common.{◌≡◌, ◌≢◌, ℕ, ◌<◌, Bool, true, false, List, [], length, map, Option, Some, None, refl, length-set}
+use Rattle.std.proofs.Common.{◌≡◌, ◌≢◌, ℕ, ◌<◌, Bool, true, false, List, [], length, map, Option, Some, None, refl, length-set, ap, ◌∙◌}
 use Rattle.std.specs.Prelude.{not, replicate, slice_set}
 use Rattle.std.proofs.Math.Seq.{map-set_same}
 use Rattle.std.proofs.lemmas.List.{get_or-set_other, get_or-set_same}
 use Rattle.std.proofs.Math.ListN.{length-replicate}
+use Rattle.machine.proofs.StockLemmas.{some_same}
 use Rattle.machine.specs.Client.{after}
 use Rattle.machine.specs.Joining as joinings
 use Rattle.machine.specs.Places.{control}
 use Rattle.machine.specs.Recovery as recoveries
 use Rattle.machine.specs.Settling as settlings
-use Rattle.machine_world.specs.Events.{acts, answer_of, happens, occurs, verb_event, verb_of, works, works_on}
+use Rattle.machine_world.specs.Events.{acts, answer_of, happens, occurs, verb_event, verb_of, verb_of_task, works, works_on}
 use Rattle.machine_world.specs.Refusals.{refusal}
 use Rattle.machine_world.specs.World.{Joins, NoTask, Recovers, Settles, TaskState, World, client_at, nobody}
 use Rattle.machine_world.specs.declared.events.Event.{Event}
@@ -97,6 +98,17 @@ pub acts-words : (late : Bool) (world : World) (client : ℕ) (other : Place) �
 acts-words late world client other differ = words_after-others world.nodes (verb_of world client) (not late) other differ
 
 -- The master's verbs.
+
+works_on-words : (world : World) (task : TaskState) (verb : Verb) (place : Place) → verb_of_task task ≡ Some verb → place ≢ place_of verb
+    → word_at (works_on world task).nodes place ≡ word_at world.nodes place
+works_on-words world NoTask verb place is differ = refl
+works_on-words world (Settles settling) verb place is differ = words_after-others world.nodes (settlings.next settling) true place (λ same. differ (same ∙ ap place_of (some_same is)))
+works_on-words world (Recovers recovery) verb place is differ = words_after-others world.nodes (recoveries.next recovery) true place (λ same. differ (same ∙ ap place_of (some_same is)))
+works_on-words world (Joins joining) verb place is differ = words_after-others world.nodes (joinings.next joining) true place (λ same. differ (same ∙ ap place_of (some_same is)))
+
+pub works-words : (world : World) (verb : Verb) (place : Place) → verb_of_task world.master.task ≡ Some verb → place ≢ place_of verb
+    → word_at (works world).nodes place ≡ word_at world.nodes place
+works-words world = works_on-words world world.master.task
 
 works_on-clients : (world : World) (task : TaskState) → (works_on world task).clients ≡ world.clients
 works_on-clients world NoTask = refl

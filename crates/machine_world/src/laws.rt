@@ -100,8 +100,11 @@ pub fn clients_leave_the_masters_words()
         → is_lost (acts late world client).nodes node ≡ is_lost world.nodes node }
 {}
 
-/// A verb of the master changes no client, not the trace, and not who is stopped.
+/// A verb of the master changes no word but its own, no client, not the trace, and not who is stopped.
 pub fn the_masters_verb_stands_apart()
+    ensures words { (world : World) (verb : Verb) (place : Place)
+        → verb_of_task world.master.task ≡ Some verb → place ≢ place_of verb
+        → word_at (works world).nodes place ≡ word_at world.nodes place }
     ensures clients { (world : World) → (works world).clients ≡ world.clients }
     ensures trace { (world : World) → (works world).trace ≡ world.trace }
     ensures stopped { (world : World) → (works world).stopped ≡ world.stopped }
