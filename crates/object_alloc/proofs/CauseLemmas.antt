@@ -205,7 +205,11 @@ after-has before after told answer object next is has =
     subst (λ s. HasObjects s object next) (sym (ap (λ (t : Turn Stock Took). t.state) is))
     (answer-caused (stock_of before) answer (Have object next) (sym has ∙ ap (λ (t : Turn Stock Took). t.told) is) (λ node. λ same. cc))
 
+-- where it tells that no object is left, none is
+pub turn-spent : (stock : Stock) (answer : Answer) (class client begin : ℕ) → (turn stock answer).told ≡ NoSpace class client begin → IsSpent (turn stock answer).state class client begin
+turn-spent stock answer class client begin none = answer-caused stock answer (NoSpace class client begin) (sym none) (λ node. λ same. cc)
+
 pub after-spent : (before after : Chooser) (told : Took) (answer : Answer) (class client begin : ℕ) → turn_of after told ≡ turn (stock_of before) answer → told ≡ NoSpace class client begin → IsSpent (stock_of after) class client begin
 after-spent before after told answer class client begin is none =
     subst (λ s. IsSpent s class client begin) (sym (ap (λ (t : Turn Stock Took). t.state) is))
-    (answer-caused (stock_of before) answer (NoSpace class client begin) (sym none ∙ ap (λ (t : Turn Stock Took). t.told) is) (λ node. λ same. cc))
+    (turn-spent (stock_of before) answer class client begin (sym (ap (λ (t : Turn Stock Took). t.told) is) ∙ none))

@@ -4,6 +4,7 @@ pub mod ChooserLemmas
 pub mod HeldLemmas
 pub mod KeptLemmas
 pub mod OrderLemmas
+pub mod PassedLemmas
 pub mod PlaceLemmas
 pub mod CauseLemmas
 pub mod StockLemmas

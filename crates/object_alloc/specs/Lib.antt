@@ -4,3 +4,4 @@ pub mod Choosers
 pub mod Classes
 pub mod Held
 pub mod Parts
+pub mod Passed

@@ -5,6 +5,7 @@
 mod bits;
 mod blocks;
 mod choosers;
+pub mod laws;
 mod places;
 mod steps;
 mod stocks;
