@@ -5,10 +5,12 @@
 #![tactic(auto)]
 
 mod objects;
+mod reading;
 mod search;
 #[cfg(test)]
 mod tests;
 
 pub use machine::key_search::Found;
 pub use machine::value_read::Fetched;
+pub use reading::{ReadValue, value};
 pub use search::Find;
