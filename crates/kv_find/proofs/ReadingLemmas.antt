@@ -1,5 +1,5 @@
 -- The bytes of a value's words, one word after the other.
-use Rattle.std.proofs.Common.{◌≡◌, ℕ, zero, suc, ◌+◌, ◌*◌, ◌^◌, ◌<◌, ◌≤◌, ◌==◌, Bool, true, false, List, [], ◌∷◌, ◌++◌, length, map, drop, get_or, Some, refl, sym, ap, ap₂, ◌∙◌, subst, zero-add, arith, length-append, append-nil}
+use Rattle.std.proofs.Common.{◌≡◌, ◌≢◌, ℕ, zero, suc, ◌+◌, ◌*◌, ◌/◌, ◌^◌, ◌<◌, ◌≤◌, ◌==◌, Bool, true, false, List, [], ◌∷◌, ◌++◌, length, map, drop, get_or, Some, refl, sym, ap, ap₂, ◌∙◌, subst, zero-add, arith, length-append, append-nil}
 use Rattle.std.specs.Int.{w64, from_le_bytes, to_le_bytes}
 use Rattle.std.specs.List.{range_with_len}
 use Rattle.std.proofs.Math.Seq.{drop-append_seam}
@@ -14,7 +14,7 @@ use Rattle.machine.proofs.KeyTestLemmas.{room_of-eight}
 use Rattle.machine.proofs.ObjectNamesLemmas.{names_object-says, object_in-is, object_in-pointer, object_word-has}
 use Rattle.machine.proofs.ValueReadLemmas.{next-inside, value_read_of-is}
 use Rattle.object_form.proofs.ClassLemmas.{units_of-bounds}
-use Rattle.object_form.proofs.ContentLemmas.{bytes_of_words-append, from_le_bytes-same}
+use Rattle.object_form.proofs.ContentLemmas.{bytes_of_words-append, from_le_bytes-same, length-padded_words}
 use Rattle.object_form.specs.Class.{room_of, words_for, words_of}
 use Rattle.object_form.specs.Content.{bytes_of_words, padded_words, word_from}
 use Rattle.region_view.specs.Layout.{HasWord}
@@ -138,3 +138,16 @@ turn-word read found = by (length read.words + 1 == words_for read.value_len) re
     by : (t : Bool) → (length read.words + 1 == words_for read.value_len) ≡ t → (turn read (Word found)).state ≡ with_next read found
     by true last = rw last refl
     by false more = rw more refl
+
+-- where the word that was read is not the last, one is still to be read
+pub still-unread : (view : Viewed) (pointer key_len value_len : ℕ) (bytes more : List ℕ) (first : Place) (found : ℕ) (now : ValueRead) → IsHeld (read_of view pointer key_len value_len bytes) bytes first
+    → read_of view pointer key_len value_len bytes ≡ now → length now.words < words_for now.value_len → more ≡ bytes ++ to_le_bytes w64 found → length more / 8 ≢ words_for value_len
+    → length (padded_words more) < words_for value_len
+still-unread view pointer key_len value_len bytes more first found now held is under are other =
+    let P : ValueRead → Type 0 = λ r. length r.words < words_for r.value_len in
+    let before : length (padded_words bytes) < words_for value_len = subst P (sym is) under in
+    let eight : length (to_le_bytes w64 found) ≡ 8 = refl in
+    let grown : length more ≡ 8 * (length (padded_words bytes) + 1) = omega (arith, ap length are, length-append bytes (to_le_bytes w64 found), held.long) in
+    let count : length more / 8 ≡ length (padded_words bytes) + 1 = omega arith in
+    let words : length (padded_words more) ≡ length (padded_words bytes) + 1 = omega (arith, length-padded_words more) in
+    omega (arith, other)

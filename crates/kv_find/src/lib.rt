@@ -4,6 +4,7 @@
 //! that has the key's fingerprint. The order is that of RACE hashing (ATC 2021) in outline.
 #![tactic(auto)]
 
+pub mod laws;
 mod objects;
 mod reading;
 mod search;

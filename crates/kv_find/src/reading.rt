@@ -5,7 +5,7 @@ ghost use Rattle.kv_find.specs.Readings.{HasRoom};
 ghost use Rattle.machine.specs.ObjectNames.{pointer_in};
 ghost use Rattle.machine.specs.Places.{IsInPool};
 ghost use Rattle.machine.specs.ValueRead.{bytes_of, next, turn, value_read_of};
-ghost use Rattle.machine.specs.declared.value_read.Fetched.TheVariants.{Refused};
+ghost use Rattle.machine.specs.declared.value_read.Fetched.TheVariants.{Going, Refused};
 ghost use Rattle.object_form.specs.Class.{words_for};
 ghost use Rattle.verb_words.specs.Verb.{place_of};
 ghost use Rattle.verb_words.specs.declared.verbs.Answer.TheVariants.{Word, Lost};
@@ -81,14 +81,15 @@ impl ReadValue {
         })
     }
 
-    /// Takes the answer to the verb that was due, and tells what has come of the reading. After
-    /// `Whole` no word is still to be read.
+    /// Takes the answer to the verb that was due, and tells what has come of the reading. While it
+    /// goes on a word is still to be read, and after `Whole` none is.
     pub fn after(&mut self, answer: Answer) -> Fetched
         requires { length self.old.words < words_for self.old.value_len }
         ensures state { self.new ≡ (turn self.old answer).state }
         ensures told { result ≡ (turn self.old answer).told }
         ensures refused { (node : ℕ) → (result ≡ Refused node)
             ↔ ((answer ≡ Lost) × (node ≡ (place_of (next self.old)).node)) }
+        ensures unread { (result ≡ Going) → length self.new.words < words_for self.new.value_len }
     {
         match answer {
             Answer::Word(found) => self.take(found),
@@ -102,6 +103,7 @@ impl ReadValue {
         ensures state { self.new ≡ (turn self.old (Word found)).state }
         ensures told { result ≡ (turn self.old (Word found)).told }
         ensures answered { (node : ℕ) → result ≢ Refused node }
+        ensures unread { (result ≡ Going) → length self.new.words < words_for self.new.value_len }
     {
         push_word(&mut self.bytes, found);
         if self.bytes.len() / 8 == self.value_len.div_ceil(8) as usize {
