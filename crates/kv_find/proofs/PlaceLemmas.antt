@@ -1,11 +1,10 @@
 -- The places of slots on the primary of the index.
-use Rattle.std.proofs.Common.{◌≡◌, ℕ, ◌+◌, ◌<◌, List, [], ◌∷◌, length, get_or, refl, sym, ap, ◌∙◌, subst, arith}
+use Rattle.std.proofs.Common.{◌≡◌, ℕ, ◌+◌, ◌<◌, List, [], ◌∷◌, length, get_or, sym, ap, subst, arith}
 use Rattle.machine.specs.EpochRead.{IsView}
 use Rattle.machine.specs.Places.{place_at, slot_primary, with_shadow}
 use Rattle.machine.proofs.PlacesLemmas.{replicas_of-some}
 use Rattle.region_view.specs.Placed.{Viewed, replicas_of}
 use Rattle.region_view.specs.Sizes.{Sizes}
-use Rattle.verb_words.specs.declared.verbs.Place.{Place}
 
 -- the slot on the first of the nodes
 with_shadow-first : (sizes : Sizes) (slot : ℕ) (nodes : List ℕ) → 0 < length nodes → place_at sizes (with_shadow slot nodes) 0 ≡ record { node = get_or nodes 0 0; at = slot }

@@ -1,5 +1,5 @@
 -- The bytes of a value's words, one word after the other.
-use Rattle.std.proofs.Common.{◌≡◌, ◌≢◌, ℕ, zero, suc, ◌+◌, ◌*◌, ◌/◌, ◌^◌, ◌<◌, ◌≤◌, ◌==◌, Bool, true, false, List, [], ◌∷◌, ◌++◌, length, map, drop, get_or, Some, refl, sym, ap, ap₂, ◌∙◌, subst, zero-add, arith, length-append, append-nil}
+use Rattle.std.proofs.Common.{◌≡◌, ◌≢◌, ℕ, zero, suc, ◌+◌, ◌*◌, ◌/◌, ◌^◌, ◌<◌, ◌≤◌, ◌==◌, Bool, true, false, List, [], ◌∷◌, ◌++◌, length, map, drop, get_or, refl, sym, ap, ap₂, ◌∙◌, subst, zero-add, arith, length-append, append-nil}
 use Rattle.std.specs.Int.{w64, from_le_bytes, to_le_bytes}
 use Rattle.std.specs.List.{range_with_len}
 use Rattle.std.proofs.Math.Seq.{drop-append_seam}
@@ -7,15 +7,15 @@ use Rattle.std.proofs.lemmas.List.{drop-append-le, get_or_append_left, length-dr
 use Rattle.std.proofs.lemmas.List.FromFn.{map-range_with_len_more}
 use Rattle.std.proofs.lemmas.Nat.{from_le_bytes-to_le_bytes_8}
 use Rattle.machine.specs.EpochRead.{IsView}
-use Rattle.machine.specs.ObjectNames.{IsObject, Object, object_in, pointer_in}
+use Rattle.machine.specs.ObjectNames.{IsObject, pointer_in}
 use Rattle.machine.specs.Places.{IsInPool, object_word, primary_place}
-use Rattle.machine.specs.ValueRead.{IsValueRead, ValueRead, turn, value_read_of, with_next}
+use Rattle.machine.specs.ValueRead.{ValueRead, turn, value_read_of, with_next}
 use Rattle.machine.proofs.KeyTestLemmas.{room_of-eight}
-use Rattle.machine.proofs.ObjectNamesLemmas.{names_object-says, object_in-is, object_in-pointer, object_word-has}
+use Rattle.machine.proofs.ObjectNamesLemmas.{object_in-is, object_in-pointer, object_word-has}
 use Rattle.machine.proofs.ValueReadLemmas.{next-inside, value_read_of-is}
 use Rattle.object_form.proofs.ClassLemmas.{units_of-bounds}
 use Rattle.object_form.proofs.ContentLemmas.{bytes_of_words-append, from_le_bytes-same, length-padded_words}
-use Rattle.object_form.specs.Class.{room_of, words_for, words_of}
+use Rattle.object_form.specs.Class.{room_of, words_for}
 use Rattle.object_form.specs.Content.{bytes_of_words, padded_words, word_from}
 use Rattle.region_view.specs.Layout.{HasWord}
 use Rattle.region_view.specs.Placed.{Viewed}
@@ -34,8 +34,8 @@ word_from-append : (bytes more : List ℕ) (i : ℕ) → 8 * i + 8 ≤ length by
 unfolding word_from
 word_from-append bytes more i within =
     from_le_bytes-same (drop (8 * i) (bytes ++ more)) (drop (8 * i) bytes) (λ k below.
-        ap (λ l. get_or l k 0) (drop-append-le (8 * i) bytes more (omega arith))
-        ∙ get_or_append_left (drop (8 * i) bytes) more 0 k (omega (arith, length-drop (8 * i) bytes)))
+    ap (λ l. get_or l k 0) (drop-append-le (8 * i) bytes more (omega arith))
+    ∙ get_or_append_left (drop (8 * i) bytes) more 0 k (omega (arith, length-drop (8 * i) bytes)))
 
 -- the word whose bytes come last
 word_from-last : (bytes : List ℕ) (count word : ℕ) → length bytes ≡ 8 * count → word < 2 ^ 64 → word_from (bytes ++ to_le_bytes w64 word) count ≡ word
@@ -54,8 +54,8 @@ padded_words-more bytes count word long below =
     ap (λ k. map (word_from all) (range_with_len 0 k)) whole
     ∙ map-range_with_len_more (word_from all) 0 count count (zero-add count)
     ∙ ap₂ (λ (front : List ℕ) (last : ℕ). front ++ last ∷ [])
-        (map_range-same (word_from all) (word_from bytes) 0 count (λ i least most. word_from-append bytes (to_le_bytes w64 word) i (omega arith)) ∙ ap (λ k. map (word_from bytes) (range_with_len 0 k)) before)
-        (word_from-last bytes count word long below)
+    (map_range-same (word_from all) (word_from bytes) 0 count (λ i least most. word_from-append bytes (to_le_bytes w64 word) i (omega arith)) ∙ ap (λ k. map (word_from bytes) (range_with_len 0 k)) before)
+    (word_from-last bytes count word long below)
 
 bytes_of_words-more : (words : List ℕ) (word : ℕ) → bytes_of_words (words ++ word ∷ []) ≡ bytes_of_words words ++ to_le_bytes w64 word
 bytes_of_words-more words word = bytes_of_words-append words (word ∷ []) ∙ ap (λ l. bytes_of_words words ++ l) (append-nil (to_le_bytes w64 word))
@@ -111,8 +111,8 @@ pub held_next-inside : (read now : ValueRead) (bytes : List ℕ) (first : Place)
 held_next-inside read now bytes first count held is under same =
     let P : ValueRead → Type 0 = λ r. length r.words < words_for r.value_len → count ≡ length r.words → IsInPool r.view.shape (record { node = first.node; at = first.at + count }) in
     let inside : P read = λ less many.
-        let Q : ℕ → Type 0 = λ k. IsInPool read.view.shape (record { node = first.node; at = first.at + k }) in
-        subst Q (sym many) (subst (IsInPool read.view.shape) (held.places (length read.words)) (next-inside read.view read (held.state less))) in
+    let Q : ℕ → Type 0 = λ k. IsInPool read.view.shape (record { node = first.node; at = first.at + k }) in
+    subst Q (sym many) (subst (IsInPool read.view.shape) (held.places (length read.words)) (next-inside read.view read (held.state less))) in
     subst P is inside under same
 
 -- the words of a reading after one more word's bytes

@@ -1,5 +1,5 @@
 -- A search stays one, with what is at hand.
-use Rattle.std.proofs.Common.{◌≡◌, ◌≢◌, ℕ, ◌+◌, ◌<◌, ◌≤◌, inl, inr, List, length, Option, Some, refl, sym, ap, ◌∙◌, subst, arith}
+use Rattle.std.proofs.Common.{◌≡◌, ℕ, ◌+◌, ◌<◌, ◌≤◌, inl, inr, List, length, Option, Some, refl, sym, ap, ◌∙◌, subst, arith}
 use Rattle.machine.specs.EpochRead.{IsView}
 use Rattle.machine.specs.KeySearch.{AtKey, AtSlot, IsAt, KeySearch, Phase, slot_at}
 use Rattle.machine.specs.KeyTest as test
@@ -69,7 +69,7 @@ pub tested-held : (search : KeySearch) (word : ℕ) (object : Object) (finger pr
     → IsHeld (with search search.place (AtKey word (key_test_of search.view search.key object))) finger primary
 tested-held search word object finger primary held named =
     with-held search search.place _ finger primary held held.place
-        (key_test_of-is search.view search.key object held.state.is_view held.some (candidate-is search.view.shape search.key word object named), named)
+    (key_test_of-is search.view search.key object held.state.is_view held.some (candidate-is search.view.shape search.key word object named), named)
 
 -- a test goes on
 pub on_test-held : (search : KeySearch) (word : ℕ) (key_test : KeyTest) (answer : Answer) (finger primary : ℕ) → IsHeld search finger primary → search.phase ≡ AtKey word key_test
@@ -78,15 +78,15 @@ on_test-held search word key_test answer finger primary held is =
     let P : Phase → Type 0 = λ p. IsAt p search.view search.key in
     let here : IsAt (AtKey word key_test) search.view search.key = subst P is held.state.phase in
     with-held search search.place _ finger primary held held.place
-        (of_test.turn-is search.view search.key key_test answer here.0, here.1 ∙ ap Some (sym (turn-object key_test answer)))
+    (of_test.turn-is search.view search.key key_test answer here.0, here.1 ∙ ap Some (sym (turn-object key_test answer)))
 
 -- the slot that is read is in the pool
 pub held_slot-inside : (search now : KeySearch) (finger primary slot : ℕ) → IsHeld search finger primary → search ≡ now → slot ≡ slot_at now → IsInPool now.view.shape (record { node = primary; at = slot })
 held_slot-inside search now finger primary slot held is same =
     let P : KeySearch → Type 0 = λ s. slot ≡ slot_at s → IsInPool s.view.shape (record { node = primary; at = slot }) in
     let inside : P search = λ at.
-        let below = slot_at-below search.view search.key search held.state in
-        subst (IsInPool search.view.shape) (held.slots slot) (slot_primary-inside search.view slot held.state.is_view (omega (arith, at))) in
+    let below = slot_at-below search.view search.key search held.state in
+    subst (IsInPool search.view.shape) (held.slots slot) (slot_primary-inside search.view slot held.state.is_view (omega (arith, at))) in
     subst P is inside same
 
 -- the object that was found in a word is one of the pool

@@ -1,22 +1,21 @@
 -- A search whose first slot has the key takes two verbs and one for each word of the key.
-use Rattle.std.proofs.Common.{◌≡◌, ◌≢◌, ℕ, zero, suc, ◌+◌, ◌*◌, ◌/◌, ◌%◌, ◌^◌, ◌<◌, ◌≤◌, ◌==◌, Bool, true, false, List, [], ◌∷◌, length, map, Option, Some, None, if◌then◌else◌, refl, sym, ap, subst, ◌∙◌, arith, eq-eqb}
-use Rattle.std.specs.Prelude.{nat_le, ◌&&◌}
+use Rattle.std.proofs.Common.{◌≡◌, ℕ, zero, suc, ◌+◌, ◌≤◌, ◌==◌, true, false, List, ◌∷◌, length, map, Some, None, refl, sym, ap, ◌∙◌, arith, eq-eqb}
 use Rattle.std.specs.List.{range_with_len}
 use Rattle.std.specs.Option.{option_and_then}
 use Rattle.std.specs.Cmp.Derive.{both_true}
 use Rattle.std.proofs.lemmas.Bool.{le-leb}
 use Rattle.std.proofs.lemmas.Bool.Decides.{nat_tests}
-use Rattle.machine.specs.declared.key_search.Found.TheVariants.{At, Going}
+use Rattle.machine.specs.declared.key_search.Found.TheVariants.{At}
 use Rattle.machine.specs.declared.key_search.Found.{Found}
 use Rattle.machine.specs.KeySearch.{AtKey, IsKeySearch, KeySearch, key_search_of, slot_at, turn}
-use Rattle.machine.specs.KeyTest.{KeyTest, Phase, Length, Part, fits, key_test_of, meta_for}
+use Rattle.machine.specs.KeyTest.{Phase, Length, Part, fits, key_test_of, meta_for}
 use Rattle.machine.specs.ObjectNames.{Object, candidate_in, object_in}
 use Rattle.machine.proofs.KeySearchLemmas.{turn-found}
 use Rattle.machine.proofs.ObjectNamesLemmas.{candidate_in-object}
 use Rattle.object_form.proofs.ContentLemmas.{length-padded_words}
 use Rattle.object_form.proofs.MetaLemmas.{code-word_of_meta, key_len-word_of_meta, meta_ext, value_len-word_of_meta}
 use Rattle.object_form.specs.Class.{room_of, words_for, words_of}
-use Rattle.object_form.specs.Content.{padded_words, word_from}
+use Rattle.object_form.specs.Content.{word_from}
 use Rattle.object_form.specs.declared.metas.Kind.{Kind}
 use Rattle.object_form.specs.declared.metas.Kind.TheVariants.{Value, Tombstone}
 use Rattle.object_form.specs.declared.metas.Meta.{Meta}
@@ -26,7 +25,6 @@ use Rattle.region_view.specs.Placed.{Viewed}
 use Rattle.region_view.specs.Sizes.{Sizes}
 use Rattle.slot_order.specs.Slots.{order_of}
 use Rattle.verb_words.specs.declared.verbs.Answer.{Answer}
-use Rattle.verb_words.specs.declared.verbs.Answer.TheVariants.{Word}
 use Rattle.kv_find.specs.Readings.{HasRoom}
 use Rattle.kv_find.specs.Verbs.{EndsWith, words_with_key}
 

@@ -14,7 +14,9 @@ use verb_words::Nodes;
 // The words of slots that name the first two objects of a pool for the key `a`, and one that names
 // the first for another fingerprint.
 const FIRST: u64 = 0xaf01_0000_0010_0010;
+
 const SECOND: u64 = 0xaf01_0000_0010_0011;
+
 const FOREIGN: u64 = 0xae01_0000_0010_0010;
 
 const FOUND: Found = At {
@@ -47,8 +49,7 @@ fn two_nodes(alloc: Global, is_lost: bool, slots: &[u64; 3]) -> Result<Nodes, Al
     control[1] = u64::from(is_lost);
     [memory[0], memory[1], memory[23]] = *slots;
     [memory[177], memory[180]] = [0x1_0001_0011, 0x61];
-    [memory[181], memory[182], memory[183]] =
-        [0x6565_746e_6576_6573, 0x7265_7474_656c_206e, 0x73];
+    [memory[181], memory[182], memory[183]] = [0x6565_746e_6576_6573, 0x7265_7474_656c_206e, 0x73];
     [memory[185], memory[188]] = [0x1_0001_0011, 0x62];
     Ok(Nodes::of_words(vec![in alloc; control, memory]?))
 }
