@@ -1,0 +1,5 @@
+pub mod PlaceLemmas
+pub mod StateLemmas
+pub mod ReadingLemmas
+pub mod VerbLemmas
+pub mod TestLemmas

@@ -1,0 +1,188 @@
+ghost use Rattle.std.specs.Prelude.{◌≡◌, ◌≢◌, ◌↔◌, ℕ, ◌<◌, ◌*◌, length};
+ghost use Rattle.machine.specs.KeySearch.{AtSlot, key_search_of, next, passed, slot_at, tests, turn, turn_at};
+ghost use Rattle.machine.specs.ObjectNames.{candidate_in};
+ghost use Rattle.machine.specs.Places.{IsInPool, slot_primary};
+ghost use Rattle.machine.specs.declared.key_search.Found.TheVariants.{Refused};
+ghost use Rattle.object_form.specs.Class.{IsKeyLength};
+ghost use Rattle.slot_order.specs.Slots.{order_of};
+ghost use Rattle.verb_words.specs.Verb.{place_of};
+ghost use Rattle.verb_words.specs.declared.verbs.Answer.TheVariants.{Word, Lost};
+
+use crate::objects::{Object, object_in};
+use arrayvec::ArrayVec;
+use key_test::{KeyTest, Tested, key_bytes};
+use machine::key_search::Found;
+use region_view::{View, replicas};
+use slot_order::{finger, order};
+use std::marker::Model;
+use verb_words::{Answer, Place, Verb};
+
+/// What a search does next.
+#[derive(Debug, Drop)]
+pub(crate) enum Phase {
+    /// Reads the slot at the present place.
+    AtSlot,
+    /// Tests the key of the object that this word of the slot names.
+    AtKey(u64, KeyTest),
+}
+
+/// A search for a key, from a place of the key's order on.
+#[derive(Debug, Drop)]
+pub struct Find {
+    view: View,
+    key: ArrayVec<u8, 64>,
+    /// The fingerprint of the key.
+    finger: u8,
+    /// The slots of the key, in the order in which they are read.
+    order: ArrayVec<u32, 32>,
+    place: usize,
+    /// The primary of the index.
+    primary: u32,
+    phase: Phase,
+}
+
+impl Model for Find {
+    ghost use Rattle.kv_find.specs.Searches.{search_of};
+    ghost use Rattle.kv_find.specs.States.{IsHeld};
+    ghost use Rattle.machine.specs.KeySearch.{KeySearch};
+
+    ghost Value = { KeySearch };
+
+    ghost view = { λ f. search_of f.view f.key.items f.order.items f.place f.phase };
+
+    ghost invariant = { λ f. IsHeld (search_of f.view f.key.items f.order.items f.place f.phase)
+        f.finger f.primary };
+}
+
+impl Find {
+    /// A search for the key from this place of its order on.
+    pub fn new(view: View, key: &[u8], from: usize) -> Find
+        requires key { IsKeyLength (length key.now) }
+        requires from { from < length (order_of key.now view.shape.groups) }
+        ensures { result ≡ key_search_of view key.now from }
+    {
+        // The sizes are read, so that they are known to be within their limits.
+        prove!(view.shape.groups <= 256);
+        Find {
+            view,
+            key: key_bytes(key),
+            finger: finger(key),
+            order: order(key, view.shape.groups),
+            place: from,
+            primary: index_primary(&view),
+            phase: Phase::AtSlot,
+        }
+    }
+
+    /// The present place in the key's order, from 0.
+    pub fn place(&self) -> usize
+        ensures { result ≡ self.now.place }
+    {
+        self.place
+    }
+
+    /// The verb that is due.
+    pub fn next(&self) -> Verb
+        ensures verb { result ≡ next self.now }
+        ensures inside { IsInPool self.now.view.shape (place_of result) }
+    {
+        match &self.phase {
+            Phase::AtSlot => Verb::Read(Place {
+                node: self.primary,
+                at: self.slot(),
+            }),
+            Phase::AtKey(_, test) => test.next(),
+        }
+    }
+
+    fn slot(&self) -> u32
+        ensures { result ≡ slot_at self.now }
+    {
+        self.order[self.place]
+    }
+
+    /// Takes the answer to the verb that was due, and tells what has come of the search.
+    pub fn after(&mut self, answer: Answer) -> Found
+        ensures state { self.new ≡ (turn self.old answer).state }
+        ensures told { result ≡ (turn self.old answer).told }
+        ensures refused { (node : ℕ) → (result ≡ Refused node)
+            ↔ ((answer ≡ Lost) × (node ≡ (place_of (next self.old)).node)) }
+    {
+        match &mut self.phase {
+            Phase::AtSlot => self.take_slot(answer),
+            Phase::AtKey(word, test) => {
+                let word = *word;
+                match test.after(answer) {
+                    Tested::Going => Found::Going,
+                    Tested::Same { kind, value_len } => Found::At {
+                        slot: self.slot(),
+                        word,
+                        kind,
+                        value_len,
+                    },
+                    Tested::Other => self.pass(),
+                    Tested::Refused(node) => Found::Refused(node),
+                }
+            }
+        }
+    }
+
+    fn take_slot(&mut self, answer: Answer) -> Found
+        requires { self.old.phase ≡ AtSlot }
+        ensures state { self.new ≡ (turn_at AtSlot self.old answer).state }
+        ensures told { result ≡ (turn_at AtSlot self.old answer).told }
+    {
+        match answer {
+            Answer::Word(0) => Found::Empty { slot: self.slot() },
+            Answer::Word(word) => self.test(word),
+            Answer::Done => Found::Going,
+            Answer::Lost => Found::Refused(self.primary),
+        }
+    }
+
+    // Goes on to the key of the object that the slot's word names, or to the next slot.
+    fn test(&mut self, word: u64) -> Found
+        ensures state { self.new ≡ (tests self.old word).state }
+        ensures told { result ≡ (tests self.old word).told }
+    {
+        let Some(object) = self.candidate_in(word) else {
+            return self.pass();
+        };
+        let test = KeyTest::new(self.view, self.key.as_slice(), object.pointer, object.class);
+        self.phase = Phase::AtKey(word, test);
+        Found::Going
+    }
+
+    // The object that a word names, where the word has the fingerprint of the key too.
+    fn candidate_in(&self, word: u64) -> Option<Object>
+        ensures { result ≡ candidate_in self.now.view.shape self.now.key word }
+    {
+        if word >> 56 == u64::from(self.finger) {
+            object_in(&self.view.shape, word)
+        } else {
+            None
+        }
+    }
+
+    /// Passes over the slot at the present place, as over one with another fingerprint.
+    pub fn pass(&mut self) -> Found
+        ensures state { self.new ≡ (passed self.old).state }
+        ensures told { result ≡ (passed self.old).told }
+    {
+        if self.place + 1 == self.order.len() {
+            return Found::Nowhere;
+        }
+        self.place += 1;
+        self.phase = Phase::AtSlot;
+        Found::Going
+    }
+}
+
+// The node that the slots are read on.
+fn index_primary(view: &View) -> u32
+    ensures { (slot : ℕ) → slot_primary view.now slot ≡ record { node = result; at = slot } }
+{
+    // The sizes are read, so that they are known to be within their limits.
+    prove!(view.shape.groups <= 256);
+    replicas(view, 0)[0]
+}
