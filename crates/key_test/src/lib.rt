@@ -1,0 +1,16 @@
+//! The test of whether an object has a key: its meta word is read, and then its key, word by word.
+//!
+//! A word that does not fit the key ends the test: an object with another key seldom costs more than
+//! two verbs.
+#![tactic(auto)]
+
+mod keys;
+mod places;
+mod program;
+#[cfg(test)]
+mod tests;
+
+pub use keys::key_bytes;
+pub use machine::key_test::Tested;
+pub use places::object_place;
+pub use program::KeyTest;

@@ -1,0 +1,26 @@
+ghost use Rattle.std.specs.Prelude.{◌≡◌, ◌+◌, ◌^◌, ◌<◌, ℕ};
+ghost use Rattle.machine.specs.Places.{object_word, primary_place};
+ghost use Rattle.region_view.specs.Layout.{HasWord};
+
+use object_form::{region_of, unit_of};
+use region_view::{View, word_places};
+use verb_words::Place;
+
+/// The place of an object's first word on the primary of its region. The object's other words stand
+/// behind it, one after the other.
+pub fn object_place(view: &View, pointer: u32) -> Place
+    requires pointer { pointer < 2 ^ 28 }
+    requires word { HasWord view.now.shape (object_word pointer 0) }
+    ensures words { (i : ℕ) → primary_place view.now (object_word pointer i)
+        ≡ record { node = result.node; at = result.at + i } }
+    ensures below { result.at < 2 ^ 21 }
+{
+    // The sizes are read, so that they are known to be within their limits.
+    prove!(view.shape.groups <= 256);
+    let places = word_places(view, region_of(pointer), 8 * unit_of(pointer));
+    let first = places[0];
+    Place {
+        node: first.0,
+        at: first.1,
+    }
+}
