@@ -5,6 +5,7 @@
 #![tactic(auto)]
 
 mod keys;
+mod objects;
 mod places;
 mod program;
 #[cfg(test)]
@@ -12,5 +13,6 @@ mod tests;
 
 pub use keys::key_bytes;
 pub use machine::key_test::Tested;
+pub use objects::{Object, candidate_in, object_in};
 pub use places::object_place;
 pub use program::KeyTest;

@@ -9,6 +9,7 @@ ghost use Rattle.verb_words.specs.Verb.{place_of};
 ghost use Rattle.verb_words.specs.declared.verbs.Answer.TheVariants.{Lost};
 
 use crate::keys::{key_bytes, key_word};
+use crate::objects::Object;
 use crate::places::object_place;
 use arrayvec::ArrayVec;
 use machine::key_test::Tested;
@@ -68,6 +69,16 @@ impl KeyTest {
             class,
             first: object_place(&view, pointer),
             phase: Phase::Length,
+        }
+    }
+
+    /// The object that is tested.
+    pub fn object(&self) -> Object
+        ensures { result ≡ self.now.object }
+    {
+        Object {
+            pointer: self.pointer,
+            class: self.class,
         }
     }
 

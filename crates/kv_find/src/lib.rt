@@ -5,7 +5,6 @@
 #![tactic(auto)]
 
 pub mod laws;
-mod objects;
 mod reading;
 mod search;
 #[cfg(test)]

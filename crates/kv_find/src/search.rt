@@ -8,9 +8,8 @@ ghost use Rattle.slot_order.specs.Slots.{order_of};
 ghost use Rattle.verb_words.specs.Verb.{place_of};
 ghost use Rattle.verb_words.specs.declared.verbs.Answer.TheVariants.{Word, Lost};
 
-use crate::objects::{Object, object_in};
 use arrayvec::ArrayVec;
-use key_test::{KeyTest, Tested, key_bytes};
+use key_test::{KeyTest, Object, Tested, key_bytes, object_in};
 use machine::key_search::Found;
 use region_view::{View, replicas};
 use slot_order::{finger, order};

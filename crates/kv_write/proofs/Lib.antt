@@ -1,0 +1,5 @@
+pub mod CourseLemmas
+pub mod WriteLemmas
+pub mod ResolveLemmas
+pub mod DoneLemmas
+pub mod TestLemmas

@@ -1,0 +1,5 @@
+pub mod Courses
+pub mod Writes
+pub mod Resolutions
+pub mod Causes
+pub mod Done
