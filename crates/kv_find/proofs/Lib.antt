@@ -1,5 +1,6 @@
+pub mod PassedLemmas
 pub mod PlaceLemmas
-pub mod StateLemmas
 pub mod ReadingLemmas
-pub mod VerbLemmas
+pub mod StateLemmas
 pub mod TestLemmas
+pub mod VerbLemmas

@@ -1,3 +1,4 @@
+pub mod Passed
 pub mod Readings
 pub mod Searches
 pub mod States

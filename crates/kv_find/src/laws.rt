@@ -1,11 +1,12 @@
 //! What holds of the definitions: each function does nothing, and its clause is the law.
 
-ghost use Rattle.std.specs.Prelude.{◌≡◌, ◌+◌, ◌≤◌, ℕ, List, length, Some};
+ghost use Rattle.std.specs.Prelude.{◌≡◌, ◌+◌, ◌<◌, ◌≤◌, ◌++◌, ◌∷◌, [], ℕ, List, length, Some};
+ghost use Rattle.kv_find.specs.Passed.{WasPassed, after_all};
 ghost use Rattle.kv_find.specs.Readings.{HasRoom};
 ghost use Rattle.kv_find.specs.Verbs.{EndsWith, words_with_key};
 ghost use Rattle.machine.specs.KeySearch.{IsKeySearch, KeySearch, key_search_of, slot_at, turn};
 ghost use Rattle.machine.specs.ObjectNames.{Object, candidate_in};
-ghost use Rattle.machine.specs.declared.key_search.Found.TheVariants.{At};
+ghost use Rattle.machine.specs.declared.key_search.Found.TheVariants.{At, Nowhere};
 ghost use Rattle.object_form.specs.Class.{room_of, words_for, words_of};
 ghost use Rattle.object_form.specs.Meta.{IsMeta};
 ghost use Rattle.object_form.specs.declared.metas.Kind.{Kind};
@@ -34,4 +35,16 @@ pub fn what_is_found_can_be_read()
         → IsKeySearch search.view search.key search
         → (turn search answer).told ≡ At slot word kind value_len
         → HasRoom search.view.shape word (length search.key) value_len }
+{}
+
+/// Where a search tells that the key is nowhere, each slot of the key's order, from the place of the
+/// start on, was passed over by an answer of this search: its word is not empty and names no object
+/// with the key's fingerprint, or the key of the object that it names is another. The start is any
+/// search, so these are the answers since the search began, or since the caller passed over a slot
+/// itself with `pass`.
+pub fn nowhere_passes_every_slot()
+    ensures { (start : KeySearch) (answers : List Answer) (answer : Answer)
+        → (turn (after_all start answers) answer).told ≡ Nowhere
+        → (place : ℕ) → start.place ≤ place → place < length start.order
+        → WasPassed start (answers ++ answer ∷ []) place }
 {}
