@@ -14,7 +14,7 @@ after_all search [] = search
 after_all search (answer ∷ answers) = after_all (turn search answer).state answers
 
 -- the answer passes the slot at the search's place over: it is the slot's word, which is not empty and names no object with
--- the key's fingerprint, or with it the test of the object that the slot's word names tells another key
+-- the key's fingerprint, or with it the test of the object's key tells another key
 abbrev pub PassesOver : KeySearch → Answer → Type 0
 PassesOver search answer =
     ((found : ℕ) × (answer ≡ Word found) × (search.phase ≡ AtSlot) × (found ≢ 0)
@@ -30,3 +30,11 @@ pub record WasPassed (start : KeySearch) (answers : List Answer) (place : ℕ) :
   pub split : answers ≡ before ++ answer ∷ after
   pub here : (after_all start before).place ≡ place
   pub passes : PassesOver (after_all start before) answer
+
+-- one of these answers is the word that was read of the slot at this place of the order
+pub record WasRead (start : KeySearch) (answers : List Answer) (place word : ℕ) : Type 0 where
+  pub before : List Answer
+  pub after : List Answer
+  pub split : answers ≡ before ++ Word word ∷ after
+  pub here : (after_all start before).place ≡ place
+  pub at_slot : (after_all start before).phase ≡ AtSlot

@@ -1,10 +1,11 @@
 //! What holds of the definitions: each function does nothing, and its clause is the law.
 
 ghost use Rattle.std.specs.Prelude.{◌≡◌, ◌+◌, ◌<◌, ◌≤◌, ◌++◌, ◌∷◌, [], ℕ, List, length, Some};
-ghost use Rattle.kv_find.specs.Passed.{WasPassed, after_all};
+ghost use Rattle.kv_find.specs.Passed.{WasPassed, WasRead, after_all};
 ghost use Rattle.kv_find.specs.Readings.{HasRoom};
 ghost use Rattle.kv_find.specs.Verbs.{EndsWith, words_with_key};
-ghost use Rattle.machine.specs.KeySearch.{IsKeySearch, KeySearch, key_search_of, slot_at, turn};
+ghost use Rattle.machine.specs.KeySearch.{AtKey, AtSlot, IsKeySearch, KeySearch, key_search_of, slot_at, turn};
+ghost use Rattle.machine.specs.KeyTest.{KeyTest};
 ghost use Rattle.machine.specs.ObjectNames.{Object, candidate_in};
 ghost use Rattle.machine.specs.declared.key_search.Found.TheVariants.{At, Nowhere};
 ghost use Rattle.object_form.specs.Class.{room_of, words_for, words_of};
@@ -38,13 +39,21 @@ pub fn what_is_found_can_be_read()
 {}
 
 /// Where a search tells that the key is nowhere, each slot of the key's order, from the place of the
-/// start on, was passed over by an answer of this search: its word is not empty and names no object
-/// with the key's fingerprint, or the key of the object that it names is another. The start is any
-/// search, so these are the answers since the search began, or since the caller passed over a slot
-/// itself with `pass`.
+/// start on, was passed over by an answer of this search: it is the slot's word, which is not empty
+/// and names no object with the key's fingerprint, or with it the test of the object's key tells
+/// another key. The start is any search, so these are the answers since the search began, or since
+/// the caller passed over a slot itself with `pass`.
 pub fn nowhere_passes_every_slot()
     ensures { (start : KeySearch) (answers : List Answer) (answer : Answer)
         → (turn (after_all start answers) answer).told ≡ Nowhere
         → (place : ℕ) → start.place ≤ place → place < length start.order
         → WasPassed start (answers ++ answer ∷ []) place }
+{}
+
+/// Where a search starts at a slot, the word whose object's key is tested was read of the slot at
+/// the search's place, by an answer of this search.
+pub fn a_tested_word_was_read_of_its_slot()
+    ensures { (start : KeySearch) (answers : List Answer) (word : ℕ) (key_test : KeyTest)
+        → start.phase ≡ AtSlot → (after_all start answers).phase ≡ AtKey word key_test
+        → WasRead start answers (after_all start answers).place word }
 {}
