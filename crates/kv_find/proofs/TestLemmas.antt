@@ -1,20 +1,10 @@
--- The places of nodes that have as many words as one another, and the first object of a pool.
-use Rattle.std.proofs.Common.{◌≡◌, ℕ, ◌<◌, List, [], length, map, replicate, get_or, refl, ap, sym, ◌∙◌, true, arith}
-use Rattle.std.proofs.lemmas.List.{get_or-map, get_or-replicate, length-map, length-replicate}
+-- The first object of a pool has room for a key of one byte and a value of 17.
+use Rattle.std.proofs.Common.{◌≡◌, refl, true, arith}
 use Rattle.machine.specs.ObjectNames.{names_object, object_in}
 use Rattle.machine.proofs.ObjectNamesLemmas.{names_object-if}
 use Rattle.race_slot.specs.Slot.{unpacked}
 use Rattle.region_view.specs.Sizes.{Sizes}
-use Rattle.verb_words.specs.declared.verbs.Place.{Place}
-use Rattle.verb_words.specs.Words.{HasPlace}
 use Rattle.kv_find.specs.Readings.{HasRoom}
-
-pub square_has_place : (words : List (List ℕ)) (place : Place) (nodes size : ℕ) → map length words ≡ replicate nodes size → place.node < nodes → place.at < size → HasPlace words place
-square_has_place words place nodes size square on below =
-    let few = ap length square in
-    let long : place.node < length words = omega (arith, length-map words length, length-replicate nodes size) in
-    let here = sym (get_or-map length words place.node [] 0 long) ∙ ap (λ l. get_or l place.node 0) square ∙ get_or-replicate nodes place.node size 0 on in
-    record { node = long; at = omega arith }
 
 first_is_named : (sizes : Sizes) → sizes.regions ≡ 1 → sizes.blocks ≡ 1 → names_object sizes 0 0x100010 ≡ true
 first_is_named sizes regions blocks = names_object-if sizes 0 0x100010 (record { below = omega arith; region = (omega arith, omega arith); first = omega arith; last = omega arith; whole = refl })

@@ -2,6 +2,7 @@ ghost use Rattle.std.specs.Prelude.{◌≡◌, ◌≢◌, ◌↔◌, ◌++◌, �
 ghost use Rattle.std.specs.Int.{w64, to_le_bytes};
 ghost use Rattle.arrayvec.specs.ArrayVec.{array_vec_len};
 ghost use Rattle.kv_find.specs.Readings.{HasRoom};
+ghost use Rattle.kv_find.specs.declared.reading.TheConstants.{MOST_BYTES};
 ghost use Rattle.machine.specs.ObjectNames.{pointer_in};
 ghost use Rattle.machine.specs.Places.{IsInPool};
 ghost use Rattle.machine.specs.ValueRead.{bytes_of, next, turn, value_read_of};
@@ -123,7 +124,7 @@ impl ReadValue {
 }
 
 fn push_word(bytes: &mut ArrayVec<u8, MOST_BYTES>, word: u64)
-    requires { array_vec_len bytes.old + 8 ≤ 2016 }
+    requires { array_vec_len bytes.old + 8 ≤ MOST_BYTES }
     ensures { bytes.new.items ≡ bytes.old.items ++ to_le_bytes w64 word }
 {
     let pushed = bytes.try_extend_from_slice(&word.to_le_bytes());

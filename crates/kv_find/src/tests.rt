@@ -55,7 +55,7 @@ fn two_nodes(alloc: Global, is_lost: bool, slots: &[u64; 3]) -> Result<Nodes, Al
 }
 
 // Takes verbs until the search tells something else than that it goes on.
-#[tactic(auto, using(crate::proofs::TestLemmas::square_has_place))]
+#[tactic(auto, using(key_test::proofs::TestLemmas::square_has_place))]
 fn run(rt: &impl Abort, nodes: &mut Nodes, find: &mut Find) -> (Found, u32)
     requires { map length nodes.old ≡ replicate 2 688 }
 {
@@ -95,7 +95,7 @@ fn searches_over_a_small_pool(rt: HostRuntime) -> Result<(), Fail> {
 }
 
 // Takes verbs until the reading tells something else than that it goes on.
-#[tactic(auto, using(crate::proofs::TestLemmas::square_has_place))]
+#[tactic(auto, using(key_test::proofs::TestLemmas::square_has_place))]
 fn read(rt: &impl Abort, nodes: &mut Nodes, reading: &mut ReadValue) -> (Fetched, u32)
     requires nodes { map length nodes.old ≡ replicate 2 688 }
     requires reading { length reading.old.words < words_for reading.old.value_len }
