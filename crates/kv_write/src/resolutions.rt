@@ -54,7 +54,7 @@ impl Model for Resolve {
 }
 
 /// Finding out how the write of a slot of the key went, which was from the word `expect` to `fresh`,
-/// the word of the object with the version `version`.
+/// the word of the object with the version `version`. The key has 1 to 64 bytes.
 pub fn resolving(
     view: View,
     slot: u32,
