@@ -1,4 +1,3 @@
-pub mod PlaceLemmas
 pub mod StateLemmas
 pub mod ReadingLemmas
 pub mod VerbLemmas
