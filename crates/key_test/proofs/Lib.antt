@@ -1,3 +1,4 @@
+pub mod IndexLemmas
 pub mod PlaceLemmas
 pub mod StateLemmas
 pub mod TestLemmas

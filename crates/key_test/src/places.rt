@@ -1,9 +1,9 @@
 ghost use Rattle.std.specs.Prelude.{◌≡◌, ◌+◌, ◌^◌, ◌<◌, ℕ};
-ghost use Rattle.machine.specs.Places.{object_word, primary_place};
+ghost use Rattle.machine.specs.Places.{object_word, primary_place, slot_primary};
 ghost use Rattle.region_view.specs.Layout.{HasWord};
 
 use object_form::{region_of, unit_of};
-use region_view::{View, word_places};
+use region_view::{View, replicas, word_places};
 use verb_words::Place;
 
 /// The place of an object's first word on the primary of its region. The object's other words stand
@@ -23,4 +23,13 @@ pub fn object_place(view: &View, pointer: u32) -> Place
         node: first.0,
         at: first.1,
     }
+}
+
+/// The node that slots are read on: the primary of the index. A slot's position there is its number.
+pub fn index_primary(view: &View) -> u32
+    ensures { (slot : ℕ) → slot_primary view.now slot ≡ record { node = result; at = slot } }
+{
+    // The sizes are read, so that they are known to be within their limits.
+    prove!(view.shape.groups <= 256);
+    replicas(view, 0)[0]
 }

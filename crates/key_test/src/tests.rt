@@ -85,3 +85,31 @@ fn keys_of_the_first_object(rt: HostRuntime) -> Result<(), Fail> {
     }
     Ok(())
 }
+
+// Words of slots in a pool with one region of one block, and the object that each names, where it has
+// the fingerprint of the key `k` too.
+const SLOTS: &[(u64, Option<(u32, u8)>)] = &[
+    (0xaf01_0000_0010_0010, Some((0x10_0010, 0))),
+    (0xaf20_0000_0010_0030, Some((0x10_0030, 5))),
+    (0xae01_0000_0010_0010, None),
+    (0xaf20_0000_0010_0020, None),
+    (0xaf03_0000_0010_0010, None),
+    (0xaf01_0000_0010_000f, None),
+    (0xaf01_0000_0010_0050, None),
+    (0xaf01_0000_0020_0010, None),
+    (0, None),
+];
+
+#[test]
+fn objects_by_slot_words(rt: HostRuntime) -> Result<(), Fail> {
+    let Ok(shape) = shape_of(1, 1, 1, 1, 1, 1, 1) else {
+        return Err("no shape".into());
+    };
+    for (word, named) in SLOTS {
+        match candidate_in(&shape, b"k", *word) {
+            Some(Object { pointer, class }) => assert_eq!(rt; Some((pointer, class)), *named),
+            None => assert_eq!(rt; None, *named),
+        }
+    }
+    Ok(())
+}

@@ -1,5 +1,4 @@
 pub mod PassedLemmas
-pub mod PlaceLemmas
 pub mod ReadingLemmas
 pub mod StateLemmas
 pub mod TestLemmas

@@ -1,7 +1,7 @@
 ghost use Rattle.std.specs.Prelude.{◌≡◌, ◌≢◌, ◌↔◌, ℕ, ◌<◌, ◌*◌, length};
 ghost use Rattle.machine.specs.KeySearch.{AtSlot, key_search_of, next, passed, slot_at, tests, turn, turn_at};
 ghost use Rattle.machine.specs.ObjectNames.{candidate_in};
-ghost use Rattle.machine.specs.Places.{IsInPool, slot_primary};
+ghost use Rattle.machine.specs.Places.{IsInPool};
 ghost use Rattle.machine.specs.declared.key_search.Found.TheVariants.{Refused};
 ghost use Rattle.object_form.specs.Class.{IsKeyLength};
 ghost use Rattle.slot_order.specs.Slots.{order_of};
@@ -9,9 +9,9 @@ ghost use Rattle.verb_words.specs.Verb.{place_of};
 ghost use Rattle.verb_words.specs.declared.verbs.Answer.TheVariants.{Word, Lost};
 
 use arrayvec::ArrayVec;
-use key_test::{KeyTest, Object, Tested, key_bytes, object_in};
+use key_test::{KeyTest, Object, Tested, index_primary, key_bytes, object_in};
 use machine::key_search::Found;
-use region_view::{View, replicas};
+use region_view::View;
 use slot_order::{finger, order};
 use std::marker::Model;
 use verb_words::{Answer, Place, Verb};
@@ -175,13 +175,4 @@ impl Find {
         self.phase = Phase::AtSlot;
         Found::Going
     }
-}
-
-// The node that the slots are read on.
-fn index_primary(view: &View) -> u32
-    ensures { (slot : ℕ) → slot_primary view.now slot ≡ record { node = result; at = slot } }
-{
-    // The sizes are read, so that they are known to be within their limits.
-    prove!(view.shape.groups <= 256);
-    replicas(view, 0)[0]
 }

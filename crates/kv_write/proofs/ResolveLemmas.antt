@@ -1,5 +1,5 @@
 -- What holds of a resolution, and where its verbs go.
-use Rattle.std.proofs.Common.{◌≡◌, ℕ, ◌*◌, ◌^◌, ◌<◌, List, length, sym, ap, subst, ◌∙◌, arith}
+use Rattle.std.proofs.Common.{◌≡◌, ℕ, ◌*◌, ◌^◌, ◌<◌, List, length, sym, ap, subst, arith}
 use Rattle.kv_write.specs.Resolutions.{IsHeld}
 use Rattle.machine.specs.EpochRead.{IsView}
 use Rattle.machine.specs.ObjectNames.{IsObject, Object}
@@ -7,15 +7,10 @@ use Rattle.machine.specs.Places.{IsInPool, object_word}
 use Rattle.machine.specs.Resolution.{Resolution, next, resolution_of}
 use Rattle.machine.proofs.ObjectNamesLemmas.{names_object-says}
 use Rattle.machine.proofs.ResolutionLemmas.{next-inside, resolution_of-is}
-use Rattle.machine.proofs.PlacesLemmas.{slot_homes_of-more}
-use Rattle.machine.proofs.PlacePairLemmas.{slot_homes_of-places}
-use Rattle.std.proofs.lemmas.List.{length-map}
-use Rattle.machine.specs.Places.{pair_of, slot_homes_of}
 use Rattle.key_test.proofs.StateLemmas.{first_word-has}
 use Rattle.object_form.specs.Class.{IsKeyLength}
 use Rattle.region_view.specs.Layout.{HasWord}
 use Rattle.region_view.specs.Placed.{Viewed}
-use Rattle.region_view.specs.Places.{slot_places_of}
 use Rattle.region_view.specs.Sizes.{Sizes}
 use Rattle.verb_words.specs.declared.verbs.Verb.{Verb}
 use Rattle.verb_words.specs.Verb.{place_of}
@@ -29,12 +24,6 @@ due-inside resolution now verb held is due =
     let here : IsHeld now = subst IsHeld is held in
     let P : Verb → Type 0 = λ v. IsInPool now.view.shape (place_of v) in
     subst P (sym due) (next-inside now.view now here.state)
-
--- a slot has a primary
-pub slot_places_of-some : (view : Viewed) (slot : ℕ) (places : List (ℕ × ℕ)) → IsView view → places ≡ slot_places_of view slot → 0 < length places
-slot_places_of-some view slot places is are =
-    let same = ap length (are ∙ sym (slot_homes_of-places view slot)) in
-    omega (arith, length-map (slot_homes_of view slot) (pair_of view.shape), slot_homes_of-more view slot is)
 
 pub object-low : (sizes : Sizes) (given object : Object) → IsObject sizes object → given ≡ object → given.pointer < 2 ^ 28
 object-low sizes given object is same = let pointer = ap (λ (o : Object). o.pointer) same in omega (arith, (names_object-says sizes object.class object.pointer is.named).below)

@@ -40,6 +40,9 @@ impl Model for ObjectWrite {
 
 /// The writing of an object and its link: the meta word, the version and the expected word, which
 /// are 0 yet, the key and the value, and then the link.
+///
+/// The pointer `object` names an object of the class that `class_for` gives for the lengths of the
+/// key and the value.
 pub fn body(
     view: View,
     object: u32,
@@ -128,7 +131,8 @@ impl Model for LogWrite {
     ghost invariant = { λ w. IsWordsWrite w.course.view (write_on w.course w.pieces.items) };
 }
 
-/// The writing of the slot word that an object is to replace, and then of the object's version.
+/// The writing of the slot word `expect` that an object is to replace, into word 3 of the object, and
+/// then of the object's version, into word 2.
 pub fn log(view: View, object: u32, expect: u64, version: u64) -> LogWrite
     requires { IsObjectPointer view.shape object }
     ensures { result ≡ words_write_of view object (log_of expect version) }

@@ -1,7 +1,7 @@
 ghost use Rattle.std.specs.Prelude.{◌≡◌, ◌↔◌, ℕ, ◌*◌, ◌<◌, Option, length};
 ghost use Rattle.kv_write.specs.Causes.{IsBeaten, IsOther, IsStill, IsWon};
 ghost use Rattle.machine.specs.ObjectNames.{IsObject};
-ghost use Rattle.machine.specs.Places.{IsInPool, object_word, primary_place, slot_primary};
+ghost use Rattle.machine.specs.Places.{IsInPool, object_word, primary_place};
 ghost use Rattle.machine.specs.Resolution.{AtKey, next, on_expected, on_slot, on_version, resolution_of, tests, turn, turn_at, walks_to};
 ghost use Rattle.machine.specs.declared.resolution.Resolved.TheVariants.{Beaten, OtherKey, Refused, Still, Won};
 ghost use Rattle.object_form.specs.Class.{IsKeyLength};
@@ -9,9 +9,11 @@ ghost use Rattle.verb_words.specs.Verb.{place_of};
 ghost use Rattle.verb_words.specs.declared.verbs.Answer.TheVariants.{Lost, Word};
 
 use arrayvec::ArrayVec;
-use key_test::{KeyTest, Object, Tested, candidate_in, key_bytes, object_in, object_place};
+use key_test::{
+    KeyTest, Object, Tested, candidate_in, index_primary, key_bytes, object_in, object_place,
+};
 use machine::resolution::Resolved;
-use region_view::{View, slot_places};
+use region_view::View;
 use std::marker::Model;
 use verb_words::{Answer, Place, Verb};
 
@@ -54,7 +56,7 @@ impl Model for Resolve {
 }
 
 /// Finding out how the write of a slot of the key went, which was from the word `expect` to `fresh`,
-/// the word of the object with the version `version`.
+/// the word of the object with the version `version`. The key has 1 to 64 bytes.
 pub fn resolving(
     view: View,
     slot: u32,
@@ -87,7 +89,10 @@ impl Resolve {
         ensures inside { IsInPool self.now.view.shape (place_of result) }
     {
         match &self.phase {
-            Phase::AtSlot => Verb::Read(slot_place(&self.view, self.slot)),
+            Phase::AtSlot => Verb::Read(Place {
+                node: index_primary(&self.view),
+                at: self.slot,
+            }),
             Phase::AtKey(test) => test.next(),
             Phase::AtVersion { object, .. } => Verb::Read(word_place(&self.view, *object, 2)),
             Phase::AtExpected { object, .. } => Verb::Read(word_place(&self.view, *object, 3)),
@@ -218,21 +223,6 @@ impl Resolve {
             return Resolved::Won;
         }
         self.walk_to(found, Some(version))
-    }
-}
-
-// The slot on its primary.
-fn slot_place(view: &View, slot: u32) -> Place
-    requires { slot < 24 * view.now.shape.groups }
-    ensures { result ≡ slot_primary view.now slot }
-{
-    // The sizes are read, so that they are known to be within their limits.
-    prove!(slot < 24 * view.shape.groups);
-    let places = slot_places(view, slot);
-    let first = places[0];
-    Place {
-        node: first.0,
-        at: first.1,
     }
 }
 

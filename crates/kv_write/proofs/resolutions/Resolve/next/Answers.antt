@@ -4,7 +4,7 @@ use Rattle.kv_write.proofs.ResolveLemmas.{due-inside}
 use Rattle.kv_write.proofs.resolutions.Resolve.next.Goals as goal
 
 pub returns-in-AtSlot-clause-inside : goal.returns-in-AtSlot-clause-inside
-returns-in-AtSlot-clause-inside c = due-inside _ c.args.self.now (Read c.slot_place.result) c.self.invariant c.self.view_is (search rules)
+returns-in-AtSlot-clause-inside c = due-inside _ c.args.self.now (Read (record { node = c.index_primary.result; at = c.self.inside.slot })) c.self.invariant c.self.view_is (search rules)
 
 pub returns-in-AtVersion-clause-inside : goal.returns-in-AtVersion-clause-inside
 returns-in-AtVersion-clause-inside c = due-inside _ c.args.self.now (Read c.word_place.result) c.self.invariant c.self.view_is (search rules)

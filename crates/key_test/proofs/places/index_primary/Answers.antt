@@ -1,8 +1,8 @@
 use Rattle.std.proofs.Common.{◌∙◌, subst, rules}
 use Rattle.machine.proofs.ViewLemmas.{IsView-of}
 use Rattle.region_view.specs.Placed.{LeavesNoneBare, Viewed}
-use Rattle.kv_find.proofs.PlaceLemmas.{index_nodes-some, slot_primary-is}
-use Rattle.kv_find.proofs.search.index_primary.Goals as goal
+use Rattle.key_test.proofs.IndexLemmas.{index_nodes-some, slot_primary-is}
+use Rattle.key_test.proofs.places.index_primary.Goals as goal
 
 pub bounds-deref-0 : goal.bounds-deref-0
 bounds-deref-0 c =
