@@ -1,4 +1,5 @@
 pub mod AnswerLemmas
+pub mod ClaimLemmas
 pub mod EventLemmas
 pub mod ExampleLemmas
 pub mod RunLemmas

@@ -1,6 +1,7 @@
 -- Runs of the world, as examples: the first put of the only client of a small pool, and a put whose client stops at its last
 -- swap.
-use Rattle.std.specs.Prelude.{true, false, List, [], ◌∷◌, ◌++◌, replicate}
+use Rattle.std.specs.Prelude.{ℕ, true, false, List, [], ◌∷◌, ◌++◌, replicate, take}
+use Rattle.machine.specs.ObjectNames.{Object}
 use Rattle.machine_world.specs.declared.events.Event.{Event}
 use Rattle.machine_world.specs.declared.events.Event.TheVariants.{Choose, Lose, Register, Invoke, Step, Stop, Work}
 use Rattle.machine_world.specs.declared.events.Task.TheVariants.{Recover, Settle}
@@ -88,3 +89,18 @@ lost_primary_history =
     record { client = 1; number = 1; call = Put (97 ∷ []) (49 ∷ []); reply = Done; returned = true }
     ∷ record { client = 1; number = 2; call = Get (97 ∷ []); reply = Value (49 ∷ []); returned = true }
     ∷ []
+
+-- the words that each put has put on one backup first
+abbrev pub crossed_words : List ℕ
+crossed_words = 12610360431615148048 ∷ 12610360431615148112 ∷ []
+
+-- before the last swap of the put of client 1, and after it
+abbrev pub crossed_before : List Event
+crossed_before = take 82 crossed_puts
+
+abbrev pub crossed_after : List Event
+crossed_after = take 83 crossed_puts
+
+-- the object of the put of client 1
+abbrev pub crossed_object : Object
+crossed_object = record { pointer = 1048592; class = 0 }

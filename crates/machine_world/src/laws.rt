@@ -1,12 +1,12 @@
 //! What holds of the definitions: each function does nothing, and its clause is the law.
 
-ghost use Rattle.std.specs.Prelude.{◌≡◌, ◌≢◌, ◌+◌, ◌<◌, ◌≤◌, ◌==◌, ℕ, Bool, true, if◌then◌else◌, List, [], ◌∷◌, ◌++◌, length, map, None, Some};
+ghost use Rattle.std.specs.Prelude.{◌≡◌, ◌≢◌, ◌+◌, ◌<◌, ◌≤◌, ◌==◌, ℕ, Bool, true, false, if◌then◌else◌, List, [], ◌∷◌, ◌++◌, length, map, None, Some};
 ghost use Rattle.machine.specs.Client.{after, told};
-ghost use Rattle.machine_world.specs.Claims.{IsHistoryLinear};
+ghost use Rattle.machine_world.specs.Claims.{HasMet, IsHistoryLinear, RoundIsWon, firsts_of, is_right};
 ghost use Rattle.machine_world.specs.Events.{answer_of, answered, chooses, fills, happens, invokes, loses, moments_of, acts, registers, stops, verb_event, verb_of, verb_of_task, works};
-ghost use Rattle.machine_world.specs.Examples.{crossed_puts, crossed_puts_history, lost_primary, lost_primary_history, three_nodes, first_put, first_put_division, first_put_history, first_put_trace, one_of_each, stopped_put, stopped_put_division, stopped_put_history, two_clients};
+ghost use Rattle.machine_world.specs.Examples.{crossed_after, crossed_before, crossed_object, crossed_puts, crossed_words, crossed_puts_history, lost_primary, lost_primary_history, three_nodes, first_put, first_put_division, first_put_history, first_put_trace, one_of_each, stopped_put, stopped_put_division, stopped_put_history, two_clients};
 ghost use Rattle.machine_world.specs.Ledger.{history_of};
-ghost use Rattle.machine_world.specs.Readings.{division_of};
+ghost use Rattle.machine_world.specs.Readings.{division_of, is_unfinished};
 ghost use Rattle.machine_world.specs.Refusals.{refusal};
 ghost use Rattle.machine_world.specs.Runs.{run, verbs_at, verbs_taken};
 ghost use Rattle.machine_world.specs.Standing.{StandsWell};
@@ -167,4 +167,17 @@ pub fn crossed_puts_as_a_run()
 /// A put whose primary is lost.
 pub fn a_lost_primary_as_a_run()
     ensures { history_of (run three_nodes lost_primary) ≡ lost_primary_history }
+{}
+
+/// In the crossed puts each put has put its word on one backup first; the least word wins. Before the
+/// round ends the call of client 2 has met the object of client 1; at the end no call is unfinished,
+/// and client 1 remembers rightly where its key is.
+pub fn what_is_said_of_the_crossed_puts()
+    ensures firsts { firsts_of two_clients 0 crossed_before ≡ map Some crossed_words }
+    ensures won { RoundIsWon (run two_clients crossed_before) (run two_clients crossed_after) 0
+        (firsts_of two_clients 0 crossed_before) }
+    ensures met { HasMet two_clients crossed_after 2 crossed_object }
+    ensures unfinished { map (is_unfinished (run two_clients crossed_after)) (0 ∷ 1 ∷ 2 ∷ []) ≡ false ∷ true ∷ true ∷ [] }
+    ensures rests { map (is_unfinished (run two_clients crossed_puts)) (0 ∷ 1 ∷ 2 ∷ []) ≡ false ∷ false ∷ false ∷ [] }
+    ensures right { map (is_right (run two_clients crossed_puts)) (client_at (run two_clients crossed_puts) 1).remembered ≡ true ∷ [] }
 {}
