@@ -171,7 +171,7 @@ on_resolved-is s n recovery resolving (resolved.Refused node) is has at walks sa
 -- The reading of the call's object.
 
 -- a meta word that is read has lengths within the limits, and the object has room for them
-meta_for-says : (recovery : Recovery) (found : ℕ) (meta : Meta) → meta_for recovery found ≡ Some meta
+pub meta_for-says : (recovery : Recovery) (found : ℕ) (meta : Meta) → meta_for recovery found ≡ Some meta
     → IsKeyLength meta.key_len × (words_of meta.key_len meta.value_len ≤ room_of recovery.object.class)
 unfolding meta_in
 meta_for-says recovery found meta says =
@@ -203,7 +203,7 @@ settles-is s n recovery base has = by (recovery.version == 0) refl
     by false some = rw some (finds-is s n recovery base has)
 
 -- so many words have as many bytes as the key
-key-long : (key_len : ℕ) (log : List ℕ) → length log ≡ 2 + words_for key_len → length (take key_len (bytes_of_words (drop 2 log))) ≡ key_len
+pub key-long : (key_len : ℕ) (log : List ℕ) → length log ≡ 2 + words_for key_len → length (take key_len (bytes_of_words (drop 2 log))) ≡ key_len
 key-long key_len log long =
     let rest = length-drop 2 log in
     let bytes = length-bytes_of_words (drop 2 log) in
@@ -222,12 +222,12 @@ reads_log-is s n recovery key_len log base has len room within = by (length log 
 
 -- The reserves, and the object of the last call.
 
-AreEnds-drop : (sizes : Sizes) (class n from : ℕ) (ends : List ClassEnd) → from ≡ class + n → AreEnds sizes class ends → AreEnds sizes from (drop n ends)
+pub AreEnds-drop : (sizes : Sizes) (class n from : ℕ) (ends : List ClassEnd) → from ≡ class + n → AreEnds sizes class ends → AreEnds sizes from (drop n ends)
 AreEnds-drop sizes class zero from ends is are = let same : class ≡ from = omega arith in subst (λ k. AreEnds sizes k ends) same are
 AreEnds-drop sizes class (suc n) from [] is are = tt
 AreEnds-drop sizes class (suc n) from (end ∷ ends) is are = AreEnds-drop sizes (class + 1) n from ends (omega arith) are.2
 
-AreEnds-push : (sizes : Sizes) (class last : ℕ) (ends : List ClassEnd) (end : ClassEnd) → last ≡ class + length ends → AreEnds sizes class ends
+pub AreEnds-push : (sizes : Sizes) (class last : ℕ) (ends : List ClassEnd) (end : ClassEnd) → last ≡ class + length ends → AreEnds sizes class ends
     → IsLast sizes last end.last → IsReserve sizes last end.reserve → AreEnds sizes class (ends ++ end ∷ [])
 AreEnds-push sizes class last [] end is are of_last of_reserve =
     let same : last ≡ class = omega arith in
@@ -235,7 +235,7 @@ AreEnds-push sizes class last [] end is are of_last of_reserve =
 AreEnds-push sizes class last (first ∷ ends) end is are of_last of_reserve =
     (are.0, are.1, AreEnds-push sizes (class + 1) last ends end (omega arith) are.2 of_last of_reserve)
 
-first_reserve-is : (sizes : Sizes) (class : ℕ) (ends : List ClassEnd) (object : Object) → AreEnds sizes class ends → first_reserve class ends ≡ Some object → IsObject sizes object
+pub first_reserve-is : (sizes : Sizes) (class : ℕ) (ends : List ClassEnd) (object : Object) → AreEnds sizes class ends → first_reserve class ends ≡ Some object → IsObject sizes object
 first_reserve-is sizes class [] object are gives = absurd cc
 first_reserve-is sizes class (end ∷ ends) object are gives = by end.reserve refl gives (first_reserve-is sizes (class + 1) ends object are.2)
   where

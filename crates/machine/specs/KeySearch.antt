@@ -1,6 +1,6 @@
 -- The search for a key: the slots of its order are read one after the other, and the key of each object that has its
 -- fingerprint is tested. The order of a key's slots is that of RACE hashing (ATC 2021) in outline.
-use Rattle.std.specs.Prelude.{◌≡◌, ℕ, ◌+◌, ◌<◌, ◌≤◌, ◌==◌, nat_lt, if◌then◌else◌, List, length, slice_index, Some}
+use Rattle.std.specs.Prelude.{◌≡◌, ℕ, ◌+◌, ◌<◌, ◌≤◌, ◌==◌, Bool, true, false, nat_lt, if◌then◌else◌, List, length, slice_index, Some}
 use Rattle.std.specs.Option.{option_map_or}
 use Rattle.machine.specs.declared.key_search.Found.{Found}
 use Rattle.machine.specs.declared.key_search.Found.TheVariants.{Going, Empty, At, Nowhere, Refused}
@@ -40,6 +40,11 @@ key_search_of view key place =
 -- the slot at the present place
 abbrev pub slot_at : KeySearch → ℕ
 slot_at search = slice_index search.order search.place
+
+-- whether a slot is read next, and not an object that it names
+abbrev pub is_at_slot : Phase → Bool
+is_at_slot AtSlot = true
+is_at_slot (AtKey word key_test) = false
 
 abbrev pub verb_at : Phase → KeySearch → Verb
 verb_at AtSlot search = Read (slot_primary search.view (slot_at search))

@@ -7,7 +7,7 @@ use Rattle.machine.specs.declared.client_call.Outcome.TheVariants as outcome
 use Rattle.machine.specs.declared.client_call.Step.{Step}
 use Rattle.machine.specs.declared.client_call.Step.TheVariants as step
 use Rattle.machine.specs.Client.{fresh_of, own_object}
-use Rattle.machine.specs.KeySearch as search
+use Rattle.machine.specs.KeySearch.{is_at_slot}
 use Rattle.machine.specs.ObjectNames.{Object, object_in}
 use Rattle.machine.specs.Places.{object_word}
 use Rattle.machine.specs.SlotWrite as slots
@@ -115,14 +115,10 @@ with_final sizes before now event caller write ledger = option_map_or (after_fin
 
 -- Reads of slots.
 
-abbrev pub reads_slot_at : search.Phase → Bool
-reads_slot_at search.AtSlot = true
-reads_slot_at phase = false
-
 -- whether the next verb of a search reads a slot
 abbrev pub reads_slot : Stage → Bool
-reads_slot (Seek key_search) = reads_slot_at key_search.phase
-reads_slot (Find key_search) = reads_slot_at key_search.phase
+reads_slot (Seek key_search) = is_at_slot key_search.phase
+reads_slot (Find key_search) = is_at_slot key_search.phase
 reads_slot stage = false
 
 abbrev pub is_word : Answer → Bool
