@@ -86,7 +86,7 @@ begins-broken_off : (writer : Writer) (write : Write) → writer ≡ Idle → br
 begins-broken_off writer write idle is = idle_writes write (sym (ap broken_off idle) ∙ is)
 
 -- who was at rest and writes now expects the deciding word
-begins : (state : State) (event : Event) → MayHappen state event → (one : ℕ) (write : Write) → state.writers one ≡ Idle
+pub begins : (state : State) (event : Event) → MayHappen state event → (one : ℕ) (write : Write) → state.writers one ≡ Idle
     → (happens state event).writers one ≡ Writing write → (happens state event).slot.primary ≡ write.expected
 begins state (Begin number expected fresh) may one write idle is =
     let moved = begins-put state number (Writing (begun expected fresh)) one write idle is in

@@ -1,0 +1,12 @@
+pub mod FamilyLemmas
+pub mod PlaceLemmas
+pub mod Seen
+pub mod SlotLemmas
+pub mod WriteLemmas
+pub mod Standing
+pub mod VerbLemmas
+pub mod StepLemmas
+pub mod HappensLemmas
+pub mod OriginLemmas
+pub mod RunLemmas
+pub mod ExampleLemmas

@@ -1,0 +1,4 @@
+pub mod Run
+pub mod Allowed
+pub mod Claims
+pub mod Example
