@@ -80,6 +80,20 @@ impl SlotWrite {
         }
     }
 
+    /// The slot that is written.
+    pub fn slot(&self) -> u32
+        ensures { result ≡ self.now.slot }
+    {
+        self.slot
+    }
+
+    /// The word that is to be replaced.
+    pub fn expect(&self) -> u64
+        ensures { result ≡ self.now.expect }
+    {
+        self.expect
+    }
+
     /// The verb that is due.
     pub fn next(&self) -> Verb
         ensures verb { result ≡ next self.now }
