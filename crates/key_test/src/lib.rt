@@ -13,6 +13,6 @@ mod tests;
 
 pub use keys::key_bytes;
 pub use machine::key_test::Tested;
-pub use objects::{Object, candidate_in, object_in};
+pub use objects::{Object, candidate_in, names_object, object_in};
 pub use places::{index_primary, object_place};
 pub use program::KeyTest;

@@ -72,9 +72,9 @@ fn class_of_units(count: u8) -> Option<u8>
     }
 }
 
-// Whether the pointer names an object of the class.
+/// Whether the pointer names an object of the class.
 #[tactic(auto, unfolding(machine::specs::ObjectNames::names_object))]
-fn names_object(shape: &Shape, class: u8, pointer: u32) -> bool
+pub fn names_object(shape: &Shape, class: u8, pointer: u32) -> bool
     requires { class < CLASSES }
     ensures { result ≡ names_object shape.now class pointer }
 {

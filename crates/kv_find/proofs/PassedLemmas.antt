@@ -19,17 +19,17 @@ use Rattle.verb_words.specs.declared.verbs.Answer.TheVariants.{Word, Done, Lost}
 -- ---- one turn
 
 -- the place stays, or the slot at it was passed over; where the key is nowhere, it was the last slot that was passed over
-record Moves (Passed : Type 0) (search : KeySearch) (turned : Turn KeySearch Found) : Type 0 where
-  order : turned.state.order ≡ search.order
-  place : (turned.state.place ≡ search.place) ⊎ ((turned.state.place ≡ search.place + 1) × Passed)
-  nowhere : turned.told ≡ Nowhere → (length search.order ≤ search.place + 1) × Passed
+pub record Moves (Passed : Type 0) (search : KeySearch) (turned : Turn KeySearch Found) : Type 0 where
+  pub order : turned.state.order ≡ search.order
+  pub place : (turned.state.place ≡ search.place) ⊎ ((turned.state.place ≡ search.place + 1) × Passed)
+  pub nowhere : turned.told ≡ Nowhere → (length search.order ≤ search.place + 1) × Passed
 
 -- nothing is passed over
 stays : (Passed : Type 0) (search next : KeySearch) (told : Found) → next.order ≡ search.order → next.place ≡ search.place → told ≢ Nowhere
     → Moves Passed search (record { state = next; told = told })
 stays Passed search next told order place other = record { order = order; place = inl place; nowhere = λ is. absurd (other is) }
 
-passed-moves : (Passed : Type 0) (search : KeySearch) → Passed → Moves Passed search (passed search)
+pub passed-moves : (Passed : Type 0) (search : KeySearch) → Passed → Moves Passed search (passed search)
 passed-moves Passed search passes = by (nat_lt (search.place + 1) (length search.order)) refl
   where
     by : (t : Bool) → nat_lt (search.place + 1) (length search.order) ≡ t → Moves Passed search (passed search)
@@ -60,7 +60,7 @@ turn_at-moves AtSlot search Lost at = stays (PassesOver search Lost) search sear
 turn_at-moves (AtKey word key_test) search answer at =
     on_test-moves (PassesOver search answer) search word (test.turn key_test answer).state (test.turn key_test answer).told (λ other. inr (word, key_test, at, other))
 
-turn-moves : (search : KeySearch) (answer : Answer) → Moves (PassesOver search answer) search (turn search answer)
+pub turn-moves : (search : KeySearch) (answer : Answer) → Moves (PassesOver search answer) search (turn search answer)
 turn-moves search answer = turn_at-moves search.phase search answer refl
 
 -- ---- all answers of a search

@@ -1,5 +1,5 @@
 ghost use Rattle.std.specs.Prelude.{◌≡◌, ◌≢◌, ◌↔◌, ℕ, ◌<◌, ◌*◌, length};
-ghost use Rattle.machine.specs.KeySearch.{AtSlot, key_search_of, next, passed, slot_at, tests, turn, turn_at};
+ghost use Rattle.machine.specs.KeySearch.{AtSlot, is_at_slot, key_search_of, next, passed, slot_at, tests, turn, turn_at};
 ghost use Rattle.machine.specs.ObjectNames.{candidate_in};
 ghost use Rattle.machine.specs.Places.{IsInPool};
 ghost use Rattle.machine.specs.declared.key_search.Found.TheVariants.{Refused};
@@ -78,6 +78,16 @@ impl Find {
         ensures { result ≡ self.now.place }
     {
         self.place
+    }
+
+    /// Whether the slot at the present place is read next, and not an object that it names.
+    pub fn is_at_slot(&self) -> bool
+        ensures { result ≡ is_at_slot self.now.phase }
+    {
+        match &self.phase {
+            Phase::AtSlot => true,
+            Phase::AtKey(..) => false,
+        }
     }
 
     /// The verb that is due.
