@@ -3,3 +3,4 @@ pub mod WriteLemmas
 pub mod ResolveLemmas
 pub mod DoneLemmas
 pub mod TestLemmas
+pub mod BoundLemmas

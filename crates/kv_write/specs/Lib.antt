@@ -3,3 +3,4 @@ pub mod Writes
 pub mod Resolutions
 pub mod Causes
 pub mod Done
+pub mod Bound

@@ -9,7 +9,7 @@ mod resolutions;
 pub use machine::object_write::Written;
 pub use machine::resolution::Resolved;
 pub use object_writes::{LogWrite, ObjectWrite, body, erase, log};
-pub use resolutions::{Resolve, resolving};
+pub use resolutions::{Resolve, resolving, walking_back};
 
 #[cfg(test)]
 mod tests;

@@ -2,7 +2,7 @@ ghost use Rattle.std.specs.Prelude.{◌≡◌, ◌↔◌, ℕ, ◌*◌, ◌<◌,
 ghost use Rattle.kv_write.specs.Causes.{IsBeaten, IsOther, IsStill, IsWon};
 ghost use Rattle.machine.specs.ObjectNames.{IsObject};
 ghost use Rattle.machine.specs.Places.{IsInPool, object_word, primary_place};
-ghost use Rattle.machine.specs.Resolution.{AtKey, next, on_expected, on_slot, on_version, resolution_of, tests, turn, turn_at, walks_to};
+ghost use Rattle.machine.specs.Resolution.{AtKey, next, on_expected, on_slot, on_version, resolution_of, tests, turn, turn_at, version_walk_of, walks_to};
 ghost use Rattle.machine.specs.declared.resolution.Resolved.TheVariants.{Beaten, OtherKey, Refused, Still, Won};
 ghost use Rattle.object_form.specs.Class.{IsKeyLength};
 ghost use Rattle.verb_words.specs.Verb.{place_of};
@@ -79,6 +79,38 @@ pub fn resolving(
         version,
         key: key_bytes(key),
         phase: Phase::AtSlot,
+    }
+}
+
+/// The same for a slot that is known to have had a word of this object, which has the key: the
+/// versions are walked back from the object on.
+pub fn walking_back(
+    view: View,
+    slot: u32,
+    expect: u64,
+    fresh: u64,
+    version: u64,
+    key: &[u8],
+    object: Object,
+) -> Resolve
+    requires slot { slot < 24 * view.shape.groups }
+    requires key { IsKeyLength (length key.now) }
+    requires object { IsObject view.shape object }
+    ensures { result ≡ version_walk_of view slot expect fresh version key.now object }
+{
+    // The sizes are read, so that they are known to be within their limits.
+    prove!(slot < 24 * view.shape.groups);
+    Resolve {
+        view,
+        slot,
+        expect,
+        fresh,
+        version,
+        key: key_bytes(key),
+        phase: Phase::AtVersion {
+            object,
+            before: None,
+        },
     }
 }
 
