@@ -1,5 +1,7 @@
 -- A chooser of the program as a stock of the machine.
-use Rattle.std.specs.Prelude.{◌≡◌, ℕ, ◌*◌, ◌<◌, List, length, map, slice_index_or}
+use Rattle.std.specs.Prelude.{◌≡◌, ℕ, ◌*◌, ◌<◌, Bool, true, false, ◌&&◌, ◌==◌, List, Option, Some, None, length, map, slice_index_or}
+use Rattle.block_alloc.specs.declared.BlockWord.{BlockWord}
+use Rattle.block_alloc.specs.declared.BlockWord.TheVariants.{Unused, Owned, Released}
 use Rattle.machine.specs.declared.choosing.Took.{Took}
 use Rattle.machine.specs.Stock as machine
 use Rattle.machine.specs.Stock.{Stock, class_stock}
@@ -56,3 +58,10 @@ pub record IsFit (stock : Stock) : Type 0 where
 -- the present position is that of a block
 abbrev pub IsInside : Stock → Type 0
 IsInside stock = stock.position < stock.shape.regions * stock.shape.blocks
+
+-- whether a block's word lets the client have the block, where it has not gained it already
+abbrev pub lets_in : Stock → Option BlockWord → Bool
+lets_in stock None = false
+lets_in stock (Some Unused) = true
+lets_in stock (Some (Released class)) = class == stock.class
+lets_in stock (Some (Owned client class)) = (client == stock.client) && (class == stock.class)

@@ -1,7 +1,7 @@
 ghost use Rattle.std.specs.Prelude.{◌≡◌, ◌+◌, ◌^◌, ◌<◌, ◌≤◌, [], All, bit_and, false, length};
 ghost use Rattle.machine.specs.Choosing.{asked, asks_after, asks_from, at_block, begins, block_at, chooses, goes_to, looks, next_block, not_awaited, on_block, on_block_word, on_first, on_scan, owns, region_at, rests, ripens, scanned_all, spreads_from, takes, with_awaited, with_block, with_scanned};
 ghost use Rattle.machine.specs.Stock.{class_stock, is_own, object_bits};
-ghost use Rattle.object_alloc.specs.Choosers.{HasRoom, IsFit, IsInside, phase_of, rooms_of, stock_of, turn_of};
+ghost use Rattle.object_alloc.specs.Choosers.{HasRoom, IsFit, IsInside, lets_in, phase_of, rooms_of, stock_of, turn_of};
 ghost use Rattle.region_view.specs.Placed.{LeavesNoneBare};
 ghost use Rattle.reuse_epoch.specs.Awaited.{IsClient, client_of, noted};
 
@@ -321,6 +321,24 @@ impl Chooser {
         }
     }
 
+    // Whether a block's word lets the client have the block, where it has not gained it already.
+    fn lets_in(&self, word: Option<BlockWord>) -> bool
+        ensures { result ≡ lets_in (stock_of self.now) word }
+    {
+        match word {
+            None => false,
+            Some(BlockWord::Unused) => true,
+            Some(BlockWord::Released { class: released }) => released == self.class,
+            Some(
+                BlockWord::Owned {
+                    client: owner,
+                    class: owned,
+                },
+            ) => owner == self.client && owned == self.class,
+        }
+    }
+
+    #[tactic(auto, using(crate::proofs::TurnLemmas::passed_over))]
     pub(crate) fn on_block_word(&mut self, found: u64) -> Took
         requires fit { IsFit (stock_of self.old) }
         requires inside { IsInside (stock_of self.old) }
@@ -330,10 +348,12 @@ impl Chooser {
         ensures turn { turn_of self.new result ≡ on_block_word (stock_of self.old) found }
         ensures rooms { rooms_of self.new ≡ rooms_of self.old }
     {
-        if self.is_own(self.region(), self.block()) {
+        // The own blocks are many, so they are gone through only where the word lets the client in.
+        let word = block_of(found);
+        if !self.lets_in(word) || self.is_own(self.region(), self.block()) {
             self.next_block()
         } else {
-            self.on_block(found, block_of(found))
+            self.on_block(found, word)
         }
     }
 }
