@@ -1,0 +1,4 @@
+pub mod JoinLemmas
+pub mod MaskLemmas
+pub mod TargetLemmas
+pub mod TestLemmas
