@@ -1,0 +1,8 @@
+use Rattle.std.proofs.Common.{ap}
+use Rattle.region_view.specs.Placed.{Viewed}
+use Rattle.kv_ops.specs.Callers.{client_of}
+use Rattle.kv_ops.proofs.CallLemmas.{slot-below}
+use Rattle.kv_ops.proofs.callers.Caller.resolves.Goals as goal
+
+pub resolving-requires-clause-slot : goal.resolving-requires-clause-slot
+resolving-requires-clause-slot c = slot-below (client_of c.args.self.now) c.slot.result c.view.result.shape.groups c.requires.ready c.requires.place c.slot.ensures (ap (λ (v : Viewed). v.shape.groups) c.view.ensures)
