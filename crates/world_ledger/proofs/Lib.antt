@@ -1,0 +1,5 @@
+mod ClientLemmas
+mod DivisionLemmas
+mod ListLemmas
+pub mod ReadingLemmas
+pub mod ReturnLemmas
