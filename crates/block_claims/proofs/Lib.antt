@@ -1,0 +1,4 @@
+pub mod Soundness
+pub mod WordLemmas
+pub mod EventLemmas
+pub mod ClaimLemmas

@@ -1,0 +1,5 @@
+pub mod Claims
+pub mod Run
+pub mod Allowed
+pub mod Holds
+pub mod Example

@@ -1,0 +1,4 @@
+pub mod Soundness
+pub mod ChangeLemmas
+pub mod EventLemmas
+pub mod BitLemmas

@@ -1,0 +1,5 @@
+pub mod Bits
+pub mod Run
+pub mod Allowed
+pub mod Claims
+pub mod Example
