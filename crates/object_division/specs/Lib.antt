@@ -1,0 +1,7 @@
+pub mod Client
+pub mod Run
+pub mod Allowed
+pub mod Claims
+pub mod Example
+pub mod Marks
+pub mod Seen
