@@ -1,0 +1,14 @@
+//! The world of the machine as a program: its memory, its clients and its master, the events that
+//! happen to them, and what is kept of the past.
+#![tactic(auto)]
+
+mod refusals;
+mod worlds;
+
+pub use machine_world::events::{Event, Task};
+pub use machine_world::outcomes::{Actor, Happened, Refused, Seen};
+pub use machine_world::parts::{BlockState, Division, ObjectState};
+pub use worlds::World;
+
+#[cfg(test)]
+mod tests;
