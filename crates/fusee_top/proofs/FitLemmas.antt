@@ -16,7 +16,8 @@ use Rattle.trace_audit.specs.Verdicts.{IsVerdict}
 use Rattle.trace_audit.specs.declared.verdicts.Verdict.TheVariants.{Linear}
 use Rattle.trace_audit.proofs.PlaceLemmas.{get-last, get-left}
 use Rattle.trace_audit.proofs.VerdictLemmas.{linear_exactly}
-use Rattle.fusee_top.specs.Run.{call_lines, client_lines, entries_from, entries_of, entry_line, history_lines, lines_of, shown_call, shown_reply}
+use Rattle.fusee_top.specs.Run.{call_lines, client_lines, entries_from, entries_of, lines_of}
+use Rattle.script_meaning.specs.Shown.{entry_line, entry_lines, shown_call, shown_reply}
 use Rattle.fusee_top.specs.Small.{SmallPlan}
 use Rattle.fusee_top.proofs.ToldLemmas.{IsLinear-lines_of}
 
@@ -145,11 +146,11 @@ entries_fit : (past : List Moment) (entries : List Entry) → FitsFrom past (map
 entries_fit past [] = (tt, tt)
 entries_fit past (e ∷ entries) = (tt, entries_fit (past ++ []) entries)
 
-history_fits : (past : List Moment) (entries : List Entry) → FitsFrom past (history_lines entries ++ line.End ∷ [])
+history_fits : (past : List Moment) (entries : List Entry) → FitsFrom past (entry_lines entries ++ line.End ∷ [])
 history_fits past entries = (tt, entries_fit (past ++ []) entries)
 
 calls_fit : (past : List Moment) (map : Map) (count : ℕ) (calls : List Call) (entries : List Entry) → Quiet past count
-    → FitsFrom past (flat_map call_lines (entries_from map (count + 1) calls) ++ (history_lines entries ++ line.End ∷ []))
+    → FitsFrom past (flat_map call_lines (entries_from map (count + 1) calls) ++ (entry_lines entries ++ line.End ∷ []))
 calls_fit past there count [] entries quiet = history_fits past entries
 calls_fit past there count (call ∷ calls) entries quiet =
     let called : Call = audit.call_of (shown_call call) in
@@ -170,9 +171,9 @@ pub Fits-lines_of : (plan : SmallPlan) → Fits (lines_of plan)
 Fits-lines_of plan =
     let entries : List Entry = entries_of plan.calls in
     let calls : List OutLine = flat_map call_lines entries in
-    let grouped : lines_of plan ≡ client_lines plan.registers ++ (calls ++ (history_lines entries ++ line.End ∷ [])) =
-    append_assoc (client_lines plan.registers ++ calls) (history_lines entries) (line.End ∷ []) ∙ append_assoc (client_lines plan.registers) calls (history_lines entries ++ line.End ∷ []) in
-    let fits = registered_fit plan.registers (calls ++ (history_lines entries ++ line.End ∷ [])) (calls_fit [] empty_map 0 plan.calls entries quiet_first) in
+    let grouped : lines_of plan ≡ client_lines plan.registers ++ (calls ++ (entry_lines entries ++ line.End ∷ [])) =
+    append_assoc (client_lines plan.registers ++ calls) (entry_lines entries) (line.End ∷ []) ∙ append_assoc (client_lines plan.registers) calls (entry_lines entries ++ line.End ∷ []) in
+    let fits = registered_fit plan.registers (calls ++ (entry_lines entries ++ line.End ∷ [])) (calls_fit [] empty_map 0 plan.calls entries quiet_first) in
     λ at out is. fits_at [] (lines_of plan) at out (rw grouped fits) is
 
 -- the verdict on the lines of a run is linear

@@ -16,7 +16,8 @@ use Rattle.map_model.proofs.MapLemmas.{may_reply-reply_of}
 use Rattle.script_text.specs.declared.out_lines.OutLine.{OutLine}
 use Rattle.script_text.specs.declared.out_lines.OutLine.TheVariants as line
 use Rattle.trace_audit.specs.Told as audit
-use Rattle.fusee_top.specs.Run.{call_lines, client_lines, entries_from, entries_of, entry_line, history_lines, lines_of, shown_call, shown_reply}
+use Rattle.fusee_top.specs.Run.{call_lines, client_lines, entries_from, entries_of, lines_of}
+use Rattle.script_meaning.specs.Shown.{entry_line, entry_lines, shown_call, shown_reply}
 use Rattle.fusee_top.specs.Small.{SmallPlan}
 
 call_shown : (call : Call) → audit.call_of (shown_call call) ≡ call
@@ -53,7 +54,7 @@ trace_of-lines_of plan =
     let entries : List Entry = entries_of plan.calls in
     let first : List OutLine = client_lines plan.registers in
     let calls : List OutLine = flat_map call_lines entries in
-    let history : List OutLine = history_lines entries in
+    let history : List OutLine = entry_lines entries in
     trace_of-append (first ++ calls ++ history) (line.End ∷ [])
     ∙ append-nil (audit.trace_of (first ++ calls ++ history))
     ∙ trace_of-append (first ++ calls) history
@@ -94,7 +95,7 @@ pub history_of-lines_of : (plan : SmallPlan) → audit.history_of (lines_of plan
 history_of-lines_of plan =
     let entries : List Entry = entries_of plan.calls in
     let first : List OutLine = client_lines plan.registers ++ flat_map call_lines entries in
-    let history : List OutLine = history_lines entries in
+    let history : List OutLine = entry_lines entries in
     ap (audit.list_from []) (append_assoc first history (line.End ∷ []))
     ∙ list_from-append [] first (history ++ line.End ∷ [])
     ∙ list_from-entries [] entries

@@ -4,7 +4,8 @@ ghost use Rattle.outside.specs.Faults.{IsSteady};
 ghost use Rattle.fusee_top.specs.Course.{Concludes, sink_course};
 ghost use Rattle.fusee_top.specs.Endings.{ending_status, ending_text, script_ending, sized_ending};
 ghost use Rattle.fusee_top.specs.Records.{records_after, reply_in};
-ghost use Rattle.fusee_top.specs.Run.{call_lines, entries_of, entry_of, history_lines, lines_of, shown_call, shown_reply};
+ghost use Rattle.fusee_top.specs.Run.{call_lines, entries_of, entry_of, lines_of};
+ghost use Rattle.script_meaning.specs.Shown.{entry_lines, shown_call, shown_reply};
 ghost use Rattle.fusee_top.specs.Small.{ArePlain, IsSmall, is_plain_call};
 ghost use Rattle.script_text.specs.ScriptRead.{plan_of};
 ghost use Rattle.script_text.specs.ShapeForm.{IsWithin};
@@ -138,7 +139,7 @@ fn push_history(
     entries: &[Entry],
 ) -> Result<(), AllocError>
     requires { length entries.now < 2 ^ 32 }
-    ensures { OnOk result (lines.new.items ≡ lines.old.items ++ history_lines entries.now) }
+    ensures { OnOk result (lines.new.items ≡ lines.old.items ++ entry_lines entries.now) }
 {
     lines.push(OutLine::History(entries.len() as u32))?;
     for entry in entries {

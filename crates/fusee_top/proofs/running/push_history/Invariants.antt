@@ -1,5 +1,5 @@
 use Rattle.std.proofs.Common.{◌≡◌, ◌++◌, ◌∷◌, length, map, take}
-use Rattle.fusee_top.specs.Run.{entry_line}
+use Rattle.script_meaning.specs.Shown.{entry_line}
 use Rattle.script_text.specs.declared.out_lines.OutLine.TheVariants as line
 use Rattle.fusee_top.proofs.running.push_history.Given as goal
 
