@@ -421,14 +421,17 @@ small-run state (event ∷ events) allowed sound small =
     (subst (λ v. SmallBitmaps v (happens state event).words) (sym (view-happens state event))
     (small-happens state event allowed.0 sound small))
 
+pub small-opening : (view : Viewed) → IsView view → SmallBitmaps view (opening view).words
+unfolding SmallBitmaps
+small-opening view is region block i within inside =
+    subst (λ w. w < 2 ^ 64) (sym (bitmap_opens view region block i is within inside)) (omega arith)
+
 pub bitmaps_small : (view : Viewed) (events : List Event) → IsView view → IsAllowed (opening view) events → (object : Object)
     → IsObject view.shape object → (replica : ℕ) → replica < replica_count view (bitmap_of object.pointer)
     → word_at (run (opening view) events).words (written_place view (bitmap_of object.pointer) replica) < 2 ^ 64
 unfolding SmallBitmaps
 bitmaps_small view events is allowed object is_object replica within =
     let state = run (opening view) events in
-    let small = small-run (opening view) events allowed (IsSound-opening view is)
-    (λ region block i of_pool inside.
-    subst (λ w. w < 2 ^ 64) (sym (bitmap_opens view region block i is of_pool inside)) (omega arith)) in
+    let small = small-run (opening view) events allowed (IsSound-opening view is) (small-opening view is) in
     let here : SmallBitmaps view state.words = subst (λ v. SmallBitmaps v state.words) (view-run (opening view) events) small in
     here (region_of object.pointer) (block_of object.pointer) replica (object_block view object is_object) within

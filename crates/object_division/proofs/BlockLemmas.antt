@@ -127,15 +127,19 @@ IsSound-run state (event ∷ events) allowed sound =
 
 -- ---- the theorem
 
-pub gained_owned : (view : Viewed) (events : List Event) → IsView view → IsAllowed (opening view) events
-    → (client class : ℕ) (own : OwnBlock) → IsGained (run (opening view) events) client class own
-    → IsOwnedBy (run (opening view) events) client class own.region own.block
-gained_owned view events is allowed client class own gained replica inside =
-    let state = run (opening view) events in
-    let sound = IsSound-run (opening view) events allowed (IsSound-opening view is) in
+pub gained_soundly : (state : State) (client class : ℕ) (own : OwnBlock) → IsSound state → IsGained state client class own
+    → IsOwnedBy state client class own.region own.block
+gained_soundly state client class own sound gained replica inside =
     let stage = (sound.clients client).gained class own gained.gained gained.kept in
     sym (block_words-at state.view state.words own.region own.block replica inside)
     ∙ stage.1 replica (omega (arith, inside, length-block_words state.view state.words own.region own.block))
+
+pub gained_owned : (view : Viewed) (events : List Event) → IsView view → IsAllowed (opening view) events
+    → (client class : ℕ) (own : OwnBlock) → IsGained (run (opening view) events) client class own
+    → IsOwnedBy (run (opening view) events) client class own.region own.block
+gained_owned view events is allowed client class own =
+    gained_soundly (run (opening view) events) client class own
+    (IsSound-run (opening view) events allowed (IsSound-opening view is))
 
 pub gained_once : (view : Viewed) (events : List Event) → IsView view → IsAllowed (opening view) events
     → (client other class of_other : ℕ) (own of_own : OwnBlock) → IsGained (run (opening view) events) client class own

@@ -72,18 +72,18 @@ turn-of change object set Lost is = record { of_object = is; look = refl }
 
 -- ---- the clients, and the objects
 
-abbrev ClearingIsOf : Clearing → Type 0
+abbrev pub ClearingIsOf : Clearing → Type 0
 ClearingIsOf NotClearing = Unit {0}
 ClearingIsOf (Under class given change) = IsChangeOf change (object_of class given) false × (change.look ≡ false)
 ClearingIsOf (Cleared class given) = Unit {0}
 
-abbrev UseIsOf : Object → Use → Type 0
+abbrev pub UseIsOf : Object → Use → Type 0
 UseIsOf object Untaken = Unit {0}
 UseIsOf object (Taken client) = Unit {0}
 UseIsOf object (Named client namer) = Unit {0}
 UseIsOf object (Returning client namer change) = IsChangeOf change object true
 
-record AreOf (clients : ℕ → Client) (uses : Object → Use) : Type 0 where
+pub record AreOf (clients : ℕ → Client) (uses : Object → Use) : Type 0 where
   pub clears : (number : ℕ) → ClearingIsOf (clients number).clearing
   pub sets : (object : Object) → UseIsOf object (uses object)
 
@@ -189,7 +189,7 @@ released-of state number (Releasing region block class replicas) all =
     with_client-of state.clients state.uses number
     (record (state.clients number) { service = service_after state.view region block class replicas }) all (all.clears number)
 
-of-happens : (state : State) (event : Event) → AreOf state.clients state.uses
+pub of-happens : (state : State) (event : Event) → AreOf state.clients state.uses
     → AreOf (happens state event).clients (happens state event).uses
 of-happens state (Begin client) all = all
 of-happens state (End client) all = all
@@ -236,7 +236,7 @@ of-run : (state : State) (events : List Event) → AreOf state.clients state.use
 of-run state [] all = all
 of-run state (event ∷ events) all = of-run (happens state event) events (of-happens state event all)
 
-of-opening : (view : Viewed) → AreOf (opening view).clients (opening view).uses
+pub of-opening : (view : Viewed) → AreOf (opening view).clients (opening view).uses
 of-opening view = record { clears = λ number. tt; sets = λ object. tt }
 
 -- ---- the theorem

@@ -175,7 +175,7 @@ HasClass-granted state object is_view is granted =
     (object_block state.view object is))) granted
 
 -- the first steps, and the ones after them
-allowed_parts : (state : State) (events later : List Event) → IsAllowed state (events ++ later)
+pub allowed_parts : (state : State) (events later : List Event) → IsAllowed state (events ++ later)
     → IsAllowed state events × IsAllowed (run state events) later
 allowed_parts state [] later allowed = (tt, allowed)
 allowed_parts state (event ∷ events) later allowed =

@@ -19,7 +19,7 @@ use Rattle.object_division.proofs.OwnLemmas.{AllHaveTheirOwn, clearer_owns, own-
 use Rattle.object_division.proofs.Soundness.{IsSound}
 
 -- a block has one owner
-one_owner : (words : List ℕ) (client other class of_other : ℕ) → IsOwner words client class → IsOwner words other of_other
+pub one_owner : (words : List ℕ) (client other class of_other : ℕ) → IsOwner words client class → IsOwner words other of_other
     → client ≡ other
 one_owner words client other class of_other owner also =
     (owned-same client other class of_other owner.client_within owner.class_within also.client_within also.class_within
@@ -40,18 +40,27 @@ two_clearers state client other class of_other given of_given change of_change s
     (subst (λ (o : Object). OwnsAt state other of_other (region_of o.pointer) (block_of o.pointer)) (sym same)
     (clearer_owns state other of_other of_given of_change sound own active' clears').0)
 
--- who has a mark in a block owns the block
-marker_owns : (state : State) (client class region block j : ℕ) → IsSound state → AllHaveTheirOwn state.clients
-    → (state.clients client).service ≡ Active → IsMarked (blocks_of (state.clients client).stock class) region block j
-    → OwnsAt state client class region block
-unfolding AllHaveTheirOwn OwnsAt
-marker_owns state client class region block j sound own active is =
+-- who has a mark in a block owns the block, until its release begins
+pub marks_owned : (state : State) (client class region block j : ℕ) → IsSound state
+    → (Contains (state.clients client).released (region, block) → ⊥)
+    → IsMarked (blocks_of (state.clients client).stock class) region block j
+    → IsOwner (block_words state.view state.words region block) client class
+unfolding OwnsAt
+marks_owned state client class region block j sound kept is =
     subst (λ r. OwnsAt state client class r block) is.region_is
     (subst (λ b. OwnsAt state client class is.own.region b) is.block_is
     ((sound.clients client).gained class is.own is.has
     (λ has.
-    none_has (is.own.region, is.own.block)
-    (subst (λ list. Contains list (is.own.region, is.own.block)) ((own client).released active) has))).0)
+    kept
+    (subst (λ r. Contains (state.clients client).released (r, block)) is.region_is
+    (subst (λ b. Contains (state.clients client).released (is.own.region, b)) is.block_is has)))).0)
+
+-- no block of a client that takes steps is released
+pub active_keeps : (state : State) (client region block : ℕ) → AllHaveTheirOwn state.clients
+    → (state.clients client).service ≡ Active → Contains (state.clients client).released (region, block) → ⊥
+unfolding AllHaveTheirOwn
+active_keeps state client region block own active has =
+    none_has (region, block) (subst (λ list. Contains list (region, block)) ((own client).released active) has)
   where
     none_has : (one : ℕ × ℕ) → Contains [] one → ⊥
     none_has one has = omega (arith, has.1)
@@ -65,11 +74,12 @@ unfolding OwnsAt
 clearer_and_marker state client other class of_other given change j sound own active active' clears marked =
     one_owner (block_words state.view state.words (region_of given.object) (block_of given.object)) client other class of_other
     (clearer_owns state client class given change sound own active clears).0
-    (marker_owns state other of_other (region_of given.object) (block_of given.object) j sound own active' marked)
+    (marks_owned state other of_other (region_of given.object) (block_of given.object) j sound
+    (active_keeps state other (region_of given.object) (block_of given.object) own active') marked)
 
 -- ---- the theorem
 
-under_clears : (class : ℕ) (given : Given) (change : BitChange) → Under class given change ≡ NotClearing → ⊥
+pub under_clears : (class : ℕ) (given : Given) (change : BitChange) → Under class given change ≡ NotClearing → ⊥
 under_clears class given change is = cc
 
 clearer_active : (view : Viewed) (events : List Event) → IsView view → IsAllowed (opening view) events

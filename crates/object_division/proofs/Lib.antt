@@ -26,3 +26,12 @@ pub mod SortedLemmas
 pub mod ChangeOfLemmas
 pub mod ClearerLemmas
 pub mod StockMarkLemmas
+pub mod InOrder
+pub mod ClearedGiftLemmas
+pub mod OwnerLemmas
+pub mod ReadyLemmas
+pub mod BitKeptLemmas
+pub mod BitChangedLemmas
+pub mod StockLemmas
+pub mod InOrderLemmas
+pub mod DividedLemmas

@@ -401,17 +401,12 @@ taken_owned view events event is allowed client object takes replica inside =
     ∙ owns.1 replica
     (omega (arith, inside, length-block_words state.view state.words (region_of object.pointer) (block_of object.pointer)))
 
-pub taken_unreserved : (view : Viewed) (events : List Event) (event : Event) → IsView view
-    → IsAllowed (opening view) (events ++ event ∷ []) → (client other : ℕ) (object : Object)
-    → Takes (run (opening view) events) event client object → other ≢ client
-    → IsReserve (run (opening view) events) other object.class object.pointer → ⊥
+pub takes_unreserved : (state : State) (event : Event) (client other : ℕ) (object : Object) → IsSound state
+    → AllHaveTheirOwn state.clients → MayHappen state event → Takes state event client object → other ≢ client
+    → IsReserve state other object.class object.pointer → ⊥
 unfolding AllHaveTheirOwn
-taken_unreserved view events event is allowed client other object takes apart reserve =
-    let both = allowed_last (opening view) events event allowed in
-    let state = run (opening view) events in
-    let sound = IsSound-run (opening view) events both.0 (IsSound-opening view is) in
-    let all = own-run (opening view) events both.0 (IsSound-opening view is) (own-opening view) in
-    let owns = (taker_owns state event client object sound all both.1 takes).0 in
+takes_unreserved state event client other object sound all may takes apart reserve =
+    let owns = (taker_owns state event client object sound all may takes).0 in
     let own = (all other).reserves object.class object.pointer reserve.is in
     let kept : Contains (state.clients other).released (own.own.region, own.own.block) → ⊥ = λ has.
     reserve.kept
@@ -424,6 +419,16 @@ taken_unreserved view events event is allowed client other object takes apart re
     apart
     ((owned-same other client object.class object.class also.client_within also.class_within owns.client_within
     owns.class_within (sym also.primary ∙ owns.primary)).0)
+
+pub taken_unreserved : (view : Viewed) (events : List Event) (event : Event) → IsView view
+    → IsAllowed (opening view) (events ++ event ∷ []) → (client other : ℕ) (object : Object)
+    → Takes (run (opening view) events) event client object → other ≢ client
+    → IsReserve (run (opening view) events) other object.class object.pointer → ⊥
+taken_unreserved view events event is allowed client other object =
+    let both = allowed_last (opening view) events event allowed in
+    takes_unreserved (run (opening view) events) event client other object
+    (IsSound-run (opening view) events both.0 (IsSound-opening view is))
+    (own-run (opening view) events both.0 (IsSound-opening view is) (own-opening view)) both.1
 
 -- ---- what a choosing gives
 

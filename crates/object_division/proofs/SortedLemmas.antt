@@ -34,8 +34,8 @@ use Rattle.object_division.specs.Marks.{HasMark, IsClaiming, IsMarked, IsNew, Is
 use Rattle.object_division.specs.Run.{Begin, Choose, Clear, ClearNext, End, Event, Name, Release, ReleaseNext, Renew, Retire, Return, ReturnNext, Seek, State, answered, cleared_next, clearing_after, clearing_of, happens, opening, released_next, renewed, returned_next, run, service_after, told}
 use Rattle.object_division.proofs.BlockLemmas.{IsSound-happens, IsSound-opening, IsSound-run, first_stocks}
 use Rattle.object_division.proofs.NewBlockLemmas.{AllClaimNew, ClaimsNew, IsNew-read, new-happens, new-opening}
-use Rattle.object_division.proofs.Soundness.{AreNamed, IsSound, IsSoundClearing, IsSoundClient}
-use Rattle.object_division.proofs.OwnLemmas.{AllHaveTheirOwn, ClearsOwn, HasItsOwn, IsGiven, own-opening, own-run}
+use Rattle.object_division.proofs.Soundness.{AreNamed, IsSound, IsSoundClearing}
+use Rattle.object_division.proofs.OwnLemmas.{AllHaveTheirOwn, ClearsOwn, IsGiven, own-opening, own-run}
 use Rattle.std.proofs.lemmas.Nat.Bits.{bit_at-pow_same}
 use Rattle.object_division.proofs.BitLemmas.{bit_at-without, bit_at-without_other, either, no_bit}
 use Rattle.object_division.proofs.GiftLemmas.{class_replaced, reserve_bit-here}
@@ -608,34 +608,38 @@ cleared_unmarked class of_class pointer reserve ripe all is = by (subst (λ o. H
     by (inr waits) = all.sorted old has_old j (subst (λ (o : OwnBlock). bit_at o.ripe j ≡ 1) same ripe.ripe) waits
 
 -- an object that was cleared, once the next reserve is the reserve
-pub renewed_unmarked : (view : Viewed) (events : List Event) → IsView view → IsAllowed (opening view) events
-    → (client class : ℕ) (given : Given) → ((run (opening view) events).clients client).clearing ≡ Cleared class given
-    → IsMarked (blocks_of (taken ((run (opening view) events).clients client).stock class given.next) class)
+pub taken_unmarked : (state : State) (client class : ℕ) (given : Given) → IsSound state → AllHaveTheirOwn state.clients
+    → AllSorted state.clients → (state.clients client).clearing ≡ Cleared class given
+    → IsMarked (blocks_of (taken (state.clients client).stock class given.next) class)
     (region_of given.object) (block_of given.object) (number_of given.object class) → ⊥
-unfolding AllHaveTheirOwn
-renewed_unmarked view events is allowed client class given clears marked =
+unfolding AllHaveTheirOwn AllSorted
+taken_unmarked state client class given sound all sorted clears marked =
     cleared_unmarked class of_class given.object own.reserve
-    (all.reserves class given.object own.reserve) (sorted_client view events is allowed client class)
+    ((all client).reserves class given.object own.reserve) (sorted client class)
     (subst (λ (c : ClassStock). IsMarked c.own (region_of given.object) (block_of given.object) (number_of given.object class))
     (get_or-set_same now.stock.classes class (with_reserve class of_class given.next) no_stock within) marked)
   where
     now : Client
-    now = (run (opening view) events).clients client
+    now = state.clients client
 
     of_class : ClassStock
     of_class = slice_index_or now.stock.classes class no_stock
 
-    all : HasItsOwn now
-    all = own-run (opening view) events allowed (IsSound-opening view is) (own-opening view) client
-
     own : IsGiven of_class class given
-    own = subst (λ c. ClearsOwn now.stock c) clears all.clearing
+    own = subst (λ c. ClearsOwn now.stock c) clears (all client).clearing
 
-    sound : IsSoundClient (run (opening view) events).view (run (opening view) events).words client now
-    sound = (IsSound-run (opening view) events allowed (IsSound-opening view is)).clients client
-
-    named : AreNamed (run (opening view) events).view.shape class given
-    named = subst (λ c. IsSoundClearing (run (opening view) events).view c) clears sound.clearing
+    named : AreNamed state.view.shape class given
+    named = subst (λ c. IsSoundClearing state.view c) clears (sound.clients client).clearing
 
     within : class < length now.stock.classes
-    within = omega (arith, named.below, sound.stock.whole)
+    within = omega (arith, named.below, (sound.clients client).stock.whole)
+
+pub renewed_unmarked : (view : Viewed) (events : List Event) → IsView view → IsAllowed (opening view) events
+    → (client class : ℕ) (given : Given) → ((run (opening view) events).clients client).clearing ≡ Cleared class given
+    → IsMarked (blocks_of (taken ((run (opening view) events).clients client).stock class given.next) class)
+    (region_of given.object) (block_of given.object) (number_of given.object class) → ⊥
+renewed_unmarked view events is allowed client class given =
+    taken_unmarked (run (opening view) events) client class given
+    (IsSound-run (opening view) events allowed (IsSound-opening view is))
+    (own-run (opening view) events allowed (IsSound-opening view is) (own-opening view))
+    (sorted-run (opening view) events allowed (IsSound-opening view is) (new-opening view) (sorted-opening view))

@@ -66,7 +66,7 @@ found_good state number region block class object is_view is owner classes regio
     owned : Owned region_here block_here class
     owned = subst (λ r. Owned r block_here class) regions (subst (λ b. Owned region b class) blocks owner.primary)
 
-seen_good : (state : State) (number : ℕ) (object : Object) (phase : Phase) → IsKept state
+pub seen_good : (state : State) (number : ℕ) (object : Object) (phase : Phase) → IsKept state
     → (state.clients number).service ≡ Active → (state.clients number).stock.phase ≢ Rest
     → (state.clients number).stock.phase ≡ phase → IsObject state.view.shape object
     → IsSeen phase (state.clients number).stock (word_at state.words (place_of (verb_at phase (state.clients number).stock)))

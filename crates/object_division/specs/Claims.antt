@@ -1,6 +1,6 @@
 -- What holds after each step: who owns a block, that an object is in stock or was taken by one client, that bits are changed
 -- the right way, and that nobody takes an object that a running call may still read.
-use Rattle.std.specs.Prelude.{◌≡◌, ◌≢◌, ℕ, ◌<◌, ◌⊎◌, true, false, not, List, [], ◌∷◌, ◌++◌, Some}
+use Rattle.std.specs.Prelude.{◌≡◌, ◌≢◌, ℕ, ◌<◌, ◌≤◌, ◌⊎◌, true, false, not, List, [], ◌∷◌, ◌++◌, Some}
 use Rattle.std.specs.List.{Contains}
 use Rattle.block_alloc.specs.declared.BlockWord.TheVariants.{Owned, Released}
 use Rattle.block_alloc.specs.BlockWord.{word_of}
@@ -115,12 +115,17 @@ abbrev pub HoldsAlong : State → List Event → Type 0
 HoldsAlong state [] = Unit {0}
 HoldsAlong state (event ∷ events) = Holds state event × HoldsAlong (happens state event) events
 
--- an object that was taken while another client was inside a call is not taken anew before that client's begin word has
--- changed
+-- the number of a client of the pool
+abbrev pub IsClientOf : State → ℕ → Type 0
+IsClientOf state client = (1 ≤ client) × (client ≤ state.view.shape.clients)
+
+-- an object that was taken while another client of the pool was inside a call is not taken anew before that client's begin
+-- word has changed
 abbrev pub HasGrace : State → Type 0
 HasGrace start =
     (before between : List Event) (event : Event) (client other : ℕ) (object : Object)
     → IsAllowed start (before ++ (between ++ event ∷ []))
+    → IsClientOf start other
     → other ≢ client
     → is_inside (run start before) other ≡ true
     → ((run start before).uses object ≢ Untaken)

@@ -5,3 +5,4 @@ pub mod Claims
 pub mod Example
 pub mod Marks
 pub mod Seen
+pub mod Stocked

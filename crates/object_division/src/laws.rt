@@ -11,7 +11,7 @@ ghost use Rattle.machine.specs.ObjectNames.{IsObject, Object, bitmap_of, block_o
 ghost use Rattle.machine.specs.Places.{IsInPool, replica_count, written_place};
 ghost use Rattle.machine.specs.Stock.{OwnBlock, Rest, Spread, Stock};
 ghost use Rattle.object_division.specs.Allowed.{IsAllowed, stock_of};
-ghost use Rattle.object_division.specs.Claims.{IsGained, IsGranted, IsOpen, IsOwnedBy, IsReserve, IsSetEverywhere, Takes};
+ghost use Rattle.object_division.specs.Claims.{HoldsAlong, IsGained, IsGranted, IsOpen, IsOwnedBy, IsReserve, IsSetEverywhere, Takes};
 ghost use Rattle.object_division.specs.Client.{Active, Cleared, Given, NotClearing, Returning, Taken, Under, Untaken};
 ghost use Rattle.object_division.specs.Example.{first_object, gains, gives_back, retires, takes, two_nodes};
 ghost use Rattle.object_division.specs.Marks.{ComesFrom, IsClaiming, IsGoodGift, IsMarked, IsNew, IsRipe, IsSeen, blocks_of};
@@ -20,6 +20,7 @@ ghost use Rattle.object_bits.specs.Claims.{AreAll};
 ghost use Rattle.object_bits.specs.Bits as object_bits;
 ghost use Rattle.object_bits.specs.Bits.{Change, bits_after, change_after};
 ghost use Rattle.object_division.specs.Seen.{HasCome, HasComeStraight, IsApart, IsChangeOf, IsStraight, IsUnderWay, StandsRight, bits_of, seen, seen_turn};
+ghost use Rattle.object_division.specs.Stocked.{IsStocked};
 ghost use Rattle.pointer_fields.specs.Pointer.{region_of};
 ghost use Rattle.region_view.specs.Placed.{Viewed};
 ghost use Rattle.verb_words.specs.declared.verbs.Answer.TheVariants.{Word};
@@ -334,4 +335,20 @@ pub fn objects_are_cleared_by_one_client()
         → ((run (opening view) events).clients other).service ≡ Active
         → IsMarked (blocks_of ((run (opening view) events).clients other).stock of_other)
         (region_of given.object) (block_of given.object) j → client ≡ other }
+{}
+
+/// Whatever the clients do, and however their steps are interleaved: after each step every object of
+/// a granted block is in stock, or is out of stock and taken by one client, and a reserve is in stock
+/// on every replica but while it is what a choosing gave; what a step takes was in stock and in nobody
+/// else's reserve; and no add sets a set bit or clears a clear one.
+pub fn objects_are_divided()
+    ensures { (view : Viewed) (events : List Event) → IsView view
+        → IsAllowed (opening view) events → HoldsAlong (opening view) events }
+{}
+
+/// Nobody has taken what is found in stock, or what an active client holds ready, but for the object
+/// that this client has just cleared.
+pub fn what_is_held_ready_is_untaken()
+    ensures { (view : Viewed) (events : List Event) → IsView view
+        → IsAllowed (opening view) events → IsStocked (run (opening view) events) }
 {}

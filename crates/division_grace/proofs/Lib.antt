@@ -1,0 +1,10 @@
+pub mod LeadLemmas
+pub mod HoldLemmas
+pub mod OtherLemmas
+pub mod StandLemmas
+pub mod TurnLemmas
+pub mod SeenLemmas
+pub mod ClientLemmas
+pub mod FollowLemmas
+pub mod FirstLemmas
+pub mod TakeLemmas
