@@ -7,9 +7,9 @@ use Rattle.machine_world.specs.Ledger as ledger
 use Rattle.machine_world.specs.Ledger.{entry_of, history_of, is_before}
 use Rattle.machine_world.specs.World.{Entered, World}
 use Rattle.map_model.specs.declared.entries.Entry.{Entry}
-use Rattle.verb_history.proofs.PointLemmas.{map-twice, placed_at}
-use Rattle.verb_history.specs.Points.{IsMarked, Placed, entered_of, in_order, inserted, placed_of}
-use Rattle.verb_history.specs.declared.points.Kept.{Kept}
+use Rattle.verb_history.proofs.PointLemmas.{lent, map-twice}
+use Rattle.verb_history.specs.Points.{IsMarked, entered_of, in_order, inserted}
+use Rattle.verb_history.specs.declared.points.Placed.{Placed}
 
 inserted-entered : (one : Placed) (others : List Placed) → map entered_of (inserted one others) ≡ ledger.inserted (entered_of one) (map entered_of others)
 inserted-entered one [] = refl
@@ -25,6 +25,10 @@ pub in_order-entered : (placed : List Placed) → map entered_of (in_order place
 in_order-entered [] = refl
 in_order-entered (one ∷ others) = inserted-entered one (in_order others) ∙ ap (ledger.inserted (entered_of one)) (in_order-entered others)
 
+-- the borrowed calls in their order are the ledger's
+pub order-entered : (placed : List Placed) (order : List (Bor Placed)) → map lent order ≡ in_order placed → map (λ one. entered_of one.now) order ≡ ledger.in_order (map entered_of placed)
+order-entered placed order ordered = sym (map-twice entered_of lent order) ∙ ap (map entered_of) ordered ∙ in_order-entered placed
+
 map-entered : (f : Entered → Entry) (placed : List Placed) → map (λ one. f (entered_of one)) placed ≡ map f (map entered_of placed)
 map-entered f [] = refl
 map-entered f (one ∷ others) = ap (λ rest. f (entered_of one) ∷ rest) (map-entered f others)
@@ -38,9 +42,9 @@ history-listed world placed same =
 -- ---- marks
 
 -- the copy of a call's entry, marked so
-pub marked-copy : (answers : ℕ → ℕ → Bool → Type 0) (kept : Kept) (copy : Entry) (mark : Bool) → copy ≡ kept.entry → answers copy.client copy.number mark
-    → IsMarked answers (entered_of (placed_of kept)) (record copy { returned = mark })
-marked-copy answers kept copy mark same holds =
+pub marked-copy : (answers : ℕ → ℕ → Bool → Type 0) (one : Placed) (copy : Entry) (mark : Bool) → copy ≡ one.entry → answers copy.client copy.number mark
+    → IsMarked answers (entered_of one) (record copy { returned = mark })
+marked-copy answers one copy mark same holds =
     (ap (λ (e : Entry). record { client = e.client; number = e.number; call = e.call; reply = e.reply; returned = mark }) same, subst (λ (e : Entry). answers e.client e.number mark) same holds)
 
 zip-map : {X Y Z : Type 0} (R : Y → Z → Type 0) (f : X → Y) (xs : List X) (zs : List Z) → AllZip (λ x z. R (f x) z) xs zs → AllZip R (map f xs) zs
@@ -61,10 +65,8 @@ zip-more R xs zs i x z within is all one =
     subst (λ ys. AllZip R ys (zs ++ z ∷ [])) (sym more) (zip-push R (take i xs) zs x z all one)
 
 -- what holds of the borrowed calls in their order holds of the ledger's
-pub history-marked : (R : Entered → Entry → Type 0) (kept : List Kept) (placed : List Placed) (order slice : List (Bor Kept)) (list : List Entry) → map placed_of kept ≡ placed
-    → map placed_at order ≡ in_order (map placed_of kept) → slice ≡ order → AllZip (λ one entry. R (entered_of (placed_at one)) entry) slice list
-    → AllZip R (ledger.in_order (map entered_of placed)) list
-history-marked R kept placed order slice list same ordered lent all =
-    let sorted : map (λ one. entered_of (placed_at one)) slice ≡ ledger.in_order (map entered_of placed)
-    = ap (map (λ one. entered_of (placed_at one))) lent ∙ sym (map-twice entered_of placed_at order) ∙ ap (map entered_of) (ordered ∙ ap in_order same) ∙ in_order-entered placed in
-    subst (λ entered. AllZip R entered list) sorted (zip-map R (λ one. entered_of (placed_at one)) slice list all)
+pub history-marked : (R : Entered → Entry → Type 0) (placed : List Placed) (order slice : List (Bor Placed)) (list : List Entry) → map lent order ≡ in_order placed → slice ≡ order
+    → AllZip (λ one entry. R (entered_of one.now) entry) slice list → AllZip R (ledger.in_order (map entered_of placed)) list
+history-marked R placed order slice list ordered same all =
+    subst (λ entered. AllZip R entered list) (ap (map (λ one. entered_of one.now)) same ∙ order-entered placed order ordered)
+    (zip-map R (λ one. entered_of one.now) slice list all)

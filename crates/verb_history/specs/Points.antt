@@ -1,21 +1,18 @@
 -- The calls of a history, each with its point, and their order.
-use Rattle.std.specs.Prelude.{◌≡◌, ℕ, ◌≤◌, Bool, ◌&&◌, ◌==◌, if◌then◌else◌, List, [], ◌∷◌, count_by}
+use Rattle.std.specs.Prelude.{◌≡◌, ℕ, ◌+◌, ◌≤◌, Bool, if◌then◌else◌, List, [], ◌∷◌, length}
 use Rattle.machine_world.specs.Ledger.{is_before}
-use Rattle.machine_world.specs.World.{Entered, Point}
+use Rattle.machine_world.specs.World.{Entered}
 use Rattle.map_model.specs.declared.entries.Entry.{Entry}
-use Rattle.verb_history.specs.declared.points.Kept.{Kept}
-use Rattle.verb_history.specs.declared.points.Point as code
+use Rattle.verb_history.specs.declared.points.Placed.{Placed}
 
--- a call of the history, and where it stands
-pub record Placed : Type 0 where
-  pub entry : Entry
-  pub at : Point
+-- the calls in the order in which they were entered, and how many there is room for
+pub record Kept : Type 0 where
+  pub placed : List Placed
+  pub room : ℕ
 
-abbrev pub point_of : code.Point → Point
-point_of point = record { event = point.event; slot = point.slot; rank = point.rank }
-
-abbrev pub placed_of : Kept → Placed
-placed_of kept = record { entry = kept.entry; at = point_of kept.at }
+-- there is room for so many calls more
+abbrev pub HasRoom : Kept → ℕ → Type 0
+HasRoom kept count = length kept.placed + count ≤ kept.room
 
 -- the call as the world's ledger has it, which tells of no return
 abbrev pub entered_of : Placed → Entered
@@ -27,17 +24,7 @@ entered_of placed = record {
   at = placed.at;
 }
 
-abbrev pub is_at : Point → Placed → Bool
-is_at point placed = (placed.at.event == point.event) && (placed.at.slot == point.slot) && (placed.at.rank == point.rank)
-
--- how many calls stand at a point
-abbrev pub count_at : Point → List Placed → ℕ
-count_at point placed = count_by (is_at point) placed
-
--- no two calls stand at one point
-abbrev pub AreApart : List Placed → Type 0
-AreApart placed = (point : Point) → count_at point placed ≤ 1
-
+-- a call that was entered before these comes behind those of them that stand at its point
 abbrev pub inserted : Placed → List Placed → List Placed
 inserted one [] = one ∷ []
 inserted one (other ∷ others) = if is_before one.at other.at then one ∷ other ∷ others else other ∷ inserted one others

@@ -4,7 +4,8 @@ ghost use Rattle.std.specs.Prelude.{◌≡◌, List, map};
 ghost use Rattle.machine_world.specs.Ledger.{entry_of, history_of};
 ghost use Rattle.machine_world.specs.Ledger as ledger;
 ghost use Rattle.machine_world.specs.World.{World};
-ghost use Rattle.verb_history.specs.Points.{Placed, entered_of, in_order};
+ghost use Rattle.verb_history.specs.Points.{entered_of, in_order};
+ghost use Rattle.verb_history.specs.declared.points.Placed.{Placed};
 
 /// The calls stand in the order in which the world's ledger has them.
 pub fn the_order_is_that_of_the_ledger()

@@ -9,4 +9,4 @@ mod points;
 mod tests;
 
 pub use moments::Moment;
-pub use points::{Point, Points};
+pub use points::{Placed, Point, Points};

@@ -1,125 +1,142 @@
-ghost use Rattle.std.specs.Prelude.{◌≡◌, ◌≢◌, [], ◌∷◌, ◌++◌, map, All, IfOk, MatchBool, OnErr, OnOk};
-ghost use Rattle.std.specs.List.{AllZip, list_any};
+ghost use Rattle.std.specs.Prelude.{◌≡◌, ℕ, ◌≤◌, [], ◌∷◌, ◌++◌, map, reverse, IfOk, OnErr, OnOk};
+ghost use Rattle.std.specs.List.{AllZip};
 ghost use Rattle.machine_world.specs.Ledger.{in_order as in_order_of_points};
-ghost use Rattle.verb_history.specs.Points.{AreApart, IsMarked, entered_of, in_order, is_at, placed_of, point_of};
+ghost use Rattle.verb_history.specs.Points.{HasRoom, IsMarked, entered_of, in_order};
 
 use map_model::Entry;
 use std::alloc::{AllocError, Global};
 use std::marker::Model;
 
-/// Where a call stands in the history: the event at which it takes effect, and among the calls of one
-/// event the slot and the rank.
+/// Where a call stands in the history: by event, then slot, then rank.
 #[derive(Clone, Copy, Debug, PartialEq, Eq, PartialOrd, Ord)]
 pub struct Point {
+    /// The event at which the call takes effect.
     pub event: u64,
+    /// Among the calls of one event, the slot.
     pub slot: u32,
+    /// Among the calls of one event and slot, the rank.
     pub rank: u32,
 }
 
-#[derive(Debug, Drop)]
-pub(crate) struct Kept {
-    entry: Entry,
-    at: Point,
+impl Model for Point {
+    ghost use Rattle.machine_world.specs.World.{Point};
+
+    ghost Value = { Point };
+
+    ghost view = { λ p. record { event = p.event; slot = p.slot; rank = p.rank } };
+
+    ghost inverse = { λ v. record { event = v.event; slot = v.slot; rank = v.rank } };
 }
 
-/// The calls of a history with their points, in the order in which they were entered. No two stand
-/// at one point.
+/// A call of the history, and where it stands.
+#[derive(Debug, Drop)]
+pub struct Placed {
+    pub entry: Entry,
+    pub at: Point,
+}
+
+/// The calls of a history with their points, in the order in which they were entered.
+///
+/// Several may stand at one point. Of these, the one that was entered last comes first in the history.
 #[derive(Debug, Drop)]
 pub struct Points {
-    kept: Vec<Kept>,
+    placed: Vec<Placed>,
 }
 
 impl Model for Points {
-    ghost use Rattle.std.specs.Prelude.{List, map};
-    ghost use Rattle.verb_history.specs.Points.{AreApart, Placed, placed_of};
+    ghost use Rattle.std.specs.Prelude.{vec_capacity};
+    ghost use Rattle.verb_history.specs.Points.{Kept};
 
-    ghost Value = { List Placed };
+    ghost Value = { Kept };
 
-    ghost view = { λ p. map placed_of p.kept.items };
-
-    ghost invariant = { λ p. AreApart (map placed_of p.kept.items) };
+    ghost view = { λ p. record { placed = p.placed.items; room = vec_capacity p.placed } };
 }
 
 impl Points {
     /// No calls.
     pub fn new(alloc: Global) -> Points
-        ensures { result ≡ [] }
+        ensures { result.placed ≡ [] }
     {
         Points {
-            kept: Vec::new(alloc),
+            placed: Vec::new(alloc),
         }
     }
 
-    /// Whether no call stands at a point.
-    pub fn is_free(&self, at: Point) -> bool
-        ensures { MatchBool result (All (λ placed. placed.at ≢ point_of at) self.now)
-            (¬ All (λ placed. placed.at ≢ point_of at) self.now) }
+    /// Makes room for so many calls more.
+    pub fn reserve(&mut self, count: usize) -> Result<(), AllocError>
+        ensures placed { self.new.placed ≡ self.old.placed }
+        ensures room { OnOk result (HasRoom self.new count) }
+        ensures more { self.old.room ≤ self.new.room }
     {
-        !stands(self.kept.as_slice(), at)
+        self.placed.reserve(count)
     }
 
-    /// Enters a call, which is to stand at a point of its own. An error changes nothing.
+    /// Enters a call. An error changes nothing.
     pub fn enter(&mut self, entry: Entry, at: Point) -> Result<(), AllocError>
-        requires { All (λ placed. placed.at ≢ point_of at) self.old }
-        ensures ok { OnOk result (self.new ≡ self.old ++ record { entry = entry; at = point_of at } ∷ []) }
-        ensures err { OnErr result (self.new ≡ self.old) }
+        ensures ok { OnOk result (self.new.placed ≡ self.old.placed ++ record { entry = entry; at = at } ∷ []) }
+        ensures err { OnErr result (self.new.placed ≡ self.old.placed) }
     {
-        self.kept.push(Kept { entry, at })?;
+        self.placed.push(Placed { entry, at })?;
         Ok(())
     }
 
-    /// The calls in the order of their points: by event, then by slot, then by rank. It takes time
-    /// n log n in their number.
-    pub fn list(&self) -> Result<Vec<Entry>, AllocError>
-        ensures { IfOk result (λ list. list.items ≡ map (λ placed. placed.entry) (in_order self.now)) }
+    /// Enters a call for which there is room. It takes no memory.
+    pub fn enter_reserved(&mut self, entry: Entry, at: Point)
+        requires { HasRoom self.old 1 }
+        ensures placed { self.new.placed ≡ self.old.placed ++ record { entry = entry; at = at } ∷ [] }
+        ensures room { self.new.room ≡ self.old.room }
     {
-        let alloc = *self.kept.allocator();
-        let order = sorted(alloc, self.kept.as_slice())?;
+        self.placed.push_reserved(Placed { entry, at });
+    }
+
+    /// The calls, lent, in the order of their points: by event, then by slot, then by rank. It takes
+    /// time n log n in their number.
+    pub fn order(&self) -> Result<Vec<&Placed>, AllocError>
+        ensures { IfOk result (λ order. map (λ one. one.now) order.items ≡ in_order self.now.placed) }
+    {
+        let alloc = *self.placed.allocator();
+        sorted(alloc, self.placed.as_slice())
+    }
+
+    /// The entries of the calls in the order of their points.
+    pub fn list(&self) -> Result<Vec<Entry>, AllocError>
+        ensures { IfOk result (λ list. list.items ≡ map (λ placed. placed.entry) (in_order self.now.placed)) }
+    {
+        let alloc = *self.placed.allocator();
+        let order = self.order()?;
         copies(alloc, order.as_slice())
     }
 
-    /// The calls in the order of their points, each marked as returned where `returned` says so of its
-    /// client and its number, in place of the mark with which it was entered.
+    /// The entries of the calls in the order of their points, each marked as returned where `returned`
+    /// says so of its client and its number, in place of the mark with which it was entered.
     pub fn history<F: Fn(u32, u32) -> bool>(&self, returned: F) -> Result<Vec<Entry>, AllocError>
         requires { F.IsAlwaysCallable returned }
         ensures { IfOk result (λ list. AllZip
             (λ entered entry. IsMarked (F.post returned) entered entry)
-            (in_order_of_points (map entered_of self.now)) list.items) }
+            (in_order_of_points (map entered_of self.now.placed)) list.items) }
     {
-        let alloc = *self.kept.allocator();
-        let order = sorted(alloc, self.kept.as_slice())?;
+        let alloc = *self.placed.allocator();
+        let order = self.order()?;
         marked(alloc, order.as_slice(), returned)
     }
 }
 
-// Whether a call stands at the point.
-fn stands(kept: &[Kept], at: Point) -> bool
-    ensures { result ≡ list_any (λ one. is_at (point_of at) (placed_of one)) kept.now }
+// The calls in the order of their points. The sort keeps calls at one point as they are handed to it.
+fn sorted<'a>(alloc: Global, placed: &'a [Placed]) -> Result<Vec<&'a Placed>, AllocError>
+    ensures { IfOk result (λ order. map (λ one. one.now) order.items ≡ in_order placed.now) }
 {
-    kept.iter().any(|one| one.at == at)
-}
-
-// The calls in the order of their points.
-fn sorted<'a>(alloc: Global, kept: &'a [Kept]) -> Result<Vec<&'a Kept>, AllocError>
-    requires { AreApart (map placed_of kept.now) }
-    ensures { IfOk result (λ order. map (λ one. placed_of one.now) order.items ≡ in_order (map placed_of kept.now)) }
-{
-    let mut order = borrowed(alloc, kept)?;
-    order.sort_unstable_by_key(|one| one.at);
+    let mut order = latest_first(alloc, placed)?;
+    order.sort_by_key(|one| one.at)?;
     Ok(order)
 }
 
-fn borrowed<'a>(alloc: Global, kept: &'a [Kept]) -> Result<Vec<&'a Kept>, AllocError>
-    ensures { IfOk result (λ order. map (λ one. one.now) order.items ≡ kept.now) }
+fn latest_first<'a>(alloc: Global, placed: &'a [Placed]) -> Result<Vec<&'a Placed>, AllocError>
+    ensures { IfOk result (λ order. map (λ one. one.now) order.items ≡ reverse placed.now) }
 {
-    let mut order = Vec::with_capacity(alloc, kept.len())?;
-    for one in kept {
-        order.push(one)?;
-    }
-    Ok(order)
+    placed.iter().rev().collect(alloc)
 }
 
-fn copies(alloc: Global, order: &[&Kept]) -> Result<Vec<Entry>, AllocError>
+fn copies(alloc: Global, order: &[&Placed]) -> Result<Vec<Entry>, AllocError>
     ensures { IfOk result (λ list. list.items ≡ map (λ one. one.now.entry) order.now) }
 {
     let mut list = Vec::with_capacity(alloc, order.len())?;
@@ -132,12 +149,12 @@ fn copies(alloc: Global, order: &[&Kept]) -> Result<Vec<Entry>, AllocError>
 // The entries, marked by these answers.
 fn marked<F: Fn(u32, u32) -> bool>(
     alloc: Global,
-    order: &[&Kept],
+    order: &[&Placed],
     returned: F,
 ) -> Result<Vec<Entry>, AllocError>
     requires { F.IsAlwaysCallable returned }
     ensures { IfOk result (λ list. AllZip
-        (λ one entry. IsMarked (F.post returned) (entered_of (placed_of one.now)) entry) order.now list.items) }
+        (λ one entry. IsMarked (F.post returned) (entered_of one.now) entry) order.now list.items) }
 {
     let mut list = Vec::with_capacity(alloc, order.len())?;
     for one in order {

@@ -5,12 +5,13 @@ use std::test::Fail;
 
 // The events, slots and ranks of points in the order in which their calls are entered, and the places
 // of these in the history. A call that was beaten stands at an early event, and before the call that
-// has beaten it.
+// has beaten it. Of calls at one point the last entered comes first.
 const LISTS: &[(&[(u64, u32, u32)], &[usize])] = &[
     (&[], &[]),
     (&[(3, 0, 0)], &[0]),
     (&[(3, 0, 0), (5, 0, 0), (9, 0, 0)], &[0, 1, 2]),
     (&[(9, 0, 0), (5, 23, 4), (3, 4, 7)], &[2, 1, 0]),
+    (&[(4, 0, 0), (4, 0, 0), (4, 0, 0)], &[2, 1, 0]),
     (
         &[
             (5, 2, u32::MAX),
@@ -20,8 +21,10 @@ const LISTS: &[(&[(u64, u32, u32)], &[usize])] = &[
             (4, 9, 9),
             (u64::MAX, 0, 0),
             (5, 1, 3),
+            (5, 2, 0),
+            (4, 9, 9),
         ],
-        &[4, 6, 2, 1, 3, 0, 5],
+        &[8, 4, 6, 2, 7, 1, 3, 0, 5],
     ),
 ];
 
@@ -36,30 +39,44 @@ fn entry(alloc: Global, client: u32) -> Result<Entry, AllocError> {
     })
 }
 
+// Each second call is entered where room was made for it.
+fn points(alloc: Global, list: &[(u64, u32, u32)]) -> Result<Points, AllocError> {
+    let mut points = Points::new(alloc);
+    for (client, (event, slot, rank)) in (0..u32::MAX).zip(list) {
+        let entry = entry(alloc, client)?;
+        let at = Point {
+            event: *event,
+            slot: *slot,
+            rank: *rank,
+        };
+        if client % 2 == 0 {
+            points.enter(entry, at)?;
+        } else {
+            points.reserve(1)?;
+            points.enter_reserved(entry, at);
+        }
+    }
+    Ok(points)
+}
+
 #[test]
 fn histories_are_in_the_order_of_points(rt: HostRuntime) -> Result<(), Fail> {
-    let alloc = rt.alloc();
-    for (points, places) in LISTS {
-        let mut kept = Points::new(alloc);
-        for (i, (event, slot, rank)) in points.iter().enumerate() {
-            let point = Point {
-                event: *event,
-                slot: *slot,
-                rank: *rank,
-            };
-            assert!(rt; kept.is_free(point));
-            kept.enter(entry(alloc, i as u32)?, point)?;
-            assert!(rt; !kept.is_free(point));
-        }
-        let list = kept.list()?;
-        assert_eq!(rt; list.len(), places.len());
-        for (one, place) in list.iter().zip(places.iter()) {
-            assert_eq!(rt; one.client as usize, *place, "{points:?}");
-        }
-        let history = kept.history(|client, number| client == 1 && number == 1)?;
+    for (list, places) in LISTS {
+        let points = points(rt.alloc(), list)?;
+        let order = points.order()?;
+        let entries = points.list()?;
+        let history = points.history(|client, number| client == 1 && number == 1)?;
+        assert_eq!(rt; order.len(), places.len());
+        assert_eq!(rt; entries.len(), places.len());
         assert_eq!(rt; history.len(), places.len());
+        for (one, place) in order.iter().zip(places.iter()) {
+            assert_eq!(rt; one.entry.client as usize, *place, "{list:?}");
+        }
+        for (one, place) in entries.iter().zip(places.iter()) {
+            assert_eq!(rt; one.client as usize, *place, "{list:?}");
+        }
         for (one, place) in history.iter().zip(places.iter()) {
-            assert_eq!(rt; one.client as usize, *place, "{points:?}");
+            assert_eq!(rt; one.client as usize, *place, "{list:?}");
             assert_eq!(rt; one.returned, one.client == 1);
         }
     }

@@ -1,26 +1,7 @@
-use map_model::{Call, Reply};
+ghost use Rattle.std.specs.Prelude.{◌≡◌, false};
+
+use map_model::{Call, Entry, Reply};
 use std::marker::Model;
-
-/// Where a call stands in the history: by event, then slot, then rank.
-#[derive(Clone, Copy, Debug, PartialEq, Eq)]
-pub struct Point {
-    /// The event at which the call takes effect.
-    pub event: u64,
-    /// Among the calls of one event, the slot.
-    pub slot: u32,
-    /// Among the calls of one event and slot, the rank.
-    pub rank: u32,
-}
-
-impl Model for Point {
-    ghost use Rattle.machine_world.specs.World.{Point};
-
-    ghost Value = { Point };
-
-    ghost view = { λ p. record { event = p.event; slot = p.slot; rank = p.rank } };
-
-    ghost inverse = { λ v. record { event = v.event; slot = v.slot; rank = v.rank } };
-}
 
 /// A call by its client and its number.
 #[derive(Debug, Drop)]
@@ -38,29 +19,30 @@ impl Model for Caller {
     ghost view = { λ c. record { client = c.client; number = c.number; call = c.call } };
 }
 
-/// A call that is in the history.
-#[derive(Debug, Drop)]
-pub struct Entered {
-    pub client: u32,
-    /// Which of the client's calls this is.
-    pub number: u32,
-    pub call: Call,
-    pub reply: Reply,
-    pub at: Point,
-}
-
-impl Model for Entered {
-    ghost use Rattle.machine_world.specs.World.{Entered};
-
-    ghost Value = { Entered };
-
-    ghost view = { λ e. record {
-      client = e.client;
-      number = e.number;
-      call = e.call;
-      reply = e.reply;
-      at = e.at;
-    } };
+impl Caller {
+    /// The call's entry with this reply. No mark of a return is kept, so the one here means nothing.
+    pub(crate) fn replied(self, reply: Reply) -> Entry
+        ensures { result ≡ record {
+          client = self.client;
+          number = self.number;
+          call = self.call;
+          reply = reply;
+          returned = false;
+        } }
+    {
+        let Caller {
+            client,
+            number,
+            call,
+        } = self;
+        Entry {
+            client,
+            number,
+            call,
+            reply,
+            returned: false,
+        }
+    }
 }
 
 /// What a client tells of a call that returns.

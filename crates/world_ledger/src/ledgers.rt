@@ -1,14 +1,14 @@
 ghost use Rattle.std.specs.Prelude.{◌≡◌, ◌≢◌, ◌+◌, ℕ, ◌<◌, ◌≤◌, [], IfOk, OnOk, length, map, replicate, slice_index_or, slice_set, vec_items};
 ghost use Rattle.std.specs.Option.{option_map_or};
 ghost use Rattle.machine.specs.ObjectNames.{object_in};
-ghost use Rattle.machine_world.specs.Ledger.{decided_at, winner_rank, with_decision};
+ghost use Rattle.machine_world.specs.Ledger.{decided_at, in_order, winner_rank, with_decision};
 ghost use Rattle.machine_world.specs.Readings.{unit_index};
 ghost use Rattle.machine_world.specs.World.{first_ledger};
-ghost use Rattle.map_model.specs.declared.calls.Reply.TheVariants as reply;
+ghost use Rattle.verb_history.specs.Points.{entered_of};
 ghost use Rattle.world_ledger.specs.Kept.{HasDecisionRoom, HasEntryRoom, has_rank_if, decision_room, with_client, with_read_at, with_taking_of};
 
 use crate::decisions::{Decided, decision, push_decision, reserve_decision};
-use crate::entries::{Caller, Entered, Point};
+use crate::entries::Caller;
 use arrayvec::ArrayVec;
 use key_test::object_in;
 use map_model::Reply;
@@ -16,6 +16,7 @@ use object_form::unit_of;
 use region_view::Shape;
 use std::alloc::{AllocError, Global};
 use std::marker::Model;
+use verb_history::{Placed, Point, Points};
 
 /// What is kept of the past.
 ///
@@ -23,7 +24,7 @@ use std::marker::Model;
 #[derive(Debug, Drop)]
 pub struct Ledger {
     /// The calls in the history.
-    pub(crate) entries: Vec<Entered>,
+    pub(crate) points: Points,
     /// When the words of each slot became deciding, in order.
     pub(crate) decided: Vec<Vec<Decided>>,
     /// For each unit of the data regions, who took or last replaced the object that begins there.
@@ -34,18 +35,19 @@ pub struct Ledger {
 
 impl Model for Ledger {
     ghost use Rattle.std.specs.Prelude.{map, vec_capacity, vec_items};
+    ghost use Rattle.verb_history.specs.Points.{entered_of};
     ghost use Rattle.world_ledger.specs.Kept.{Kept};
 
     ghost Value = { Kept };
 
     ghost view = { λ l. record {
       ledger = record {
-        entries = l.entries.items;
+        entries = map entered_of l.points.placed;
         decided = map vec_items l.decided.items;
         holders = l.holders.items;
         reads = l.reads.items;
       };
-      rooms = record { entries = vec_capacity l.entries; decided = map vec_capacity l.decided.items };
+      rooms = record { entries = l.points.room; decided = map vec_capacity l.decided.items };
     } };
 }
 
@@ -57,18 +59,19 @@ impl Ledger {
         let mut reads = ArrayVec::new();
         reads.push(0);
         Ok(Ledger {
-            entries: Vec::new(alloc),
+            points: Points::new(alloc),
             decided: no_decisions(alloc, 24 * shape.groups as usize)?,
             holders: vec![in alloc; 1; (shape.regions * (64 * shape.blocks)) as usize]?,
             reads,
         })
     }
 
-    /// The calls in the history, as they came into it.
-    pub fn entries(&self) -> &[Entered]
-        ensures { result.now ≡ self.now.ledger.entries }
+    /// The calls in the history, lent, in the order of their points. Their marks of a return mean
+    /// nothing.
+    pub fn in_order(&self) -> Result<Vec<&Placed>, AllocError>
+        ensures { IfOk result (λ order. map (λ one. entered_of one.now) order.items ≡ in_order self.now.ledger.entries) }
     {
-        &self.entries
+        self.points.order()
     }
 
     /// Who last took or replaced the object of a pointer; client 1 where there was none.
@@ -89,7 +92,7 @@ impl Ledger {
         ensures room { OnOk result (HasEntryRoom self.new count) }
         ensures decided { self.new.rooms.decided ≡ self.old.rooms.decided }
     {
-        self.entries.reserve(count)
+        self.points.reserve(count)
     }
 
     /// Makes room for one decision more of a slot.
@@ -169,7 +172,8 @@ impl Ledger {
         push_decision(&mut self.decided, slot, event);
         if let Some(caller) = caller {
             hold_replaced(&mut self.holders, shape, replaced, caller.client);
-            self.entries.push_reserved(winner(caller, event, slot));
+            self.points
+                .enter_reserved(caller.replied(Reply::Done), winner_point(event, slot));
         }
     }
 }
@@ -214,25 +218,13 @@ fn hold_replaced(holders: &mut Vec<u32>, shape: &Shape, word: u64, client: u32)
     }
 }
 
-// The entry of a call whose word has become deciding: it stands behind all that it has beaten.
-fn winner(caller: Caller, event: u64, slot: u32) -> Entered
-    ensures { result ≡ record {
-      client = caller.client;
-      number = caller.number;
-      call = caller.call;
-      reply = reply.Done;
-      at = record { event = event; slot = slot; rank = winner_rank };
-    } }
+// Where a call stands whose word has become deciding: behind all that it has beaten.
+fn winner_point(event: u64, slot: u32) -> Point
+    ensures { result ≡ record { event = event; slot = slot; rank = winner_rank } }
 {
-    Entered {
-        client: caller.client,
-        number: caller.number,
-        call: caller.call,
-        reply: Reply::Done,
-        at: Point {
-            event,
-            slot,
-            rank: u32::MAX,
-        },
+    Point {
+        event,
+        slot,
+        rank: u32::MAX,
     }
 }

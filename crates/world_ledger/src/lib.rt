@@ -21,7 +21,7 @@ mod tests;
 
 pub use clients::Clients;
 pub use divisions::division;
-pub use entries::{Caller, Entered, Point, Returned};
+pub use entries::{Caller, Returned};
 pub use ledgers::Ledger;
 pub use losses::region_lost;
 pub use objects::{block_in_force, is_in_stock, link_word_in_force, slot_of_present};

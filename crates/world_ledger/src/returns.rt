@@ -4,9 +4,10 @@ ghost use Rattle.world_ledger.specs.Kept.{HasEntryRoom, has_rank, has_rank_if};
 ghost use Rattle.world_ledger.specs.Returns.{with_done_of, with_entry_of, with_loss_of, with_returned, with_search_of};
 
 use crate::decisions::{count_beaten, decision};
-use crate::entries::{Caller, Entered, Point, Returned};
+use crate::entries::Returned;
 use crate::ledgers::Ledger;
 use machine::client_call::Outcome;
+use verb_history::Point;
 
 impl Ledger {
     /// A call returns so, at this event. It comes into the history where it is not there yet: at
@@ -76,7 +77,8 @@ impl Ledger {
         ensures ledger { self.new.ledger ≡ with_entry_of returned at self.old.ledger }
         ensures rooms { self.new.rooms ≡ self.old.rooms }
     {
-        self.entries.push_reserved(entry(returned, at));
+        let Returned { caller, reply, .. } = returned;
+        self.points.enter_reserved(caller.replied(reply), at);
     }
 
     // The event of a client's last read of a slot.
@@ -88,30 +90,6 @@ impl Ledger {
         } else {
             0
         }
-    }
-}
-
-fn entry(returned: Returned, at: Point) -> Entered
-    ensures { result ≡ record {
-      client = returned.caller.client;
-      number = returned.caller.number;
-      call = returned.caller.call;
-      reply = returned.reply;
-      at = at;
-    } }
-{
-    let Returned { caller, reply, .. } = returned;
-    let Caller {
-        client,
-        number,
-        call,
-    } = caller;
-    Entered {
-        client,
-        number,
-        call,
-        reply,
-        at,
     }
 }
 

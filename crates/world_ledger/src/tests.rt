@@ -10,6 +10,7 @@ use region_view::{Shape, first_words, shape_of, words};
 use std::alloc::{AllocError, Global};
 use std::process::Abort;
 use std::test::Fail;
+use verb_history::Point;
 use verb_words::{Nodes, Place, Verb};
 
 // The slot word of an object of one unit, the first of region 2.
@@ -123,17 +124,19 @@ fn calls_at_one_slot(rt: HostRuntime) -> Result<(), Fail> {
     ] {
         returns(&rt, &mut ledger, caller(alloc, client)?, beaten, 12)?;
     }
+    // In the order of their points, which is not that in which they were entered.
     let expected = [
-        (2, 9, 3, u32::MAX),
+        (1, 4, 0, 0),
         (3, 9, 3, 0),
         (4, 9, 3, 1),
-        (1, 4, 0, 0),
+        (2, 9, 3, u32::MAX),
         (3, 12, 0, 0),
     ];
-    assert_eq!(rt; ledger.entries().len(), expected.len());
-    for (entry, (client, event, slot, rank)) in ledger.entries().iter().zip(expected) {
-        assert_eq!(rt; entry.client, client);
-        assert_eq!(rt; entry.at, Point { event, slot, rank });
+    let order = ledger.in_order()?;
+    assert_eq!(rt; order.len(), expected.len());
+    for (one, (client, event, slot, rank)) in order.iter().zip(expected) {
+        assert_eq!(rt; one.entry.client, client);
+        assert_eq!(rt; one.at, Point { event, slot, rank });
     }
     Ok(())
 }

@@ -1,13 +1,9 @@
-use Rattle.std.proofs.Common.{map, ap, sym, subst, ◌∙◌}
 use Rattle.std.proofs.lemmas.Result.{IfOk-weaker}
 use Rattle.verb_history.proofs.LedgerLemmas.{history-marked}
-use Rattle.verb_history.specs.Points.{AreApart, IsMarked, placed_of}
+use Rattle.verb_history.specs.Points.{IsMarked}
 use Rattle.verb_history.proofs.points.Points.history.Goals as goal
-
-pub sorted-requires : goal.sorted-requires
-sorted-requires g c = subst (λ kept. AreApart (map placed_of kept)) (sym c.as_slice.ensures.value) c.self.invariant
 
 pub returns : goal.returns
 returns g c = IfOk-weaker c.marked.result _ _ (λ list is.
-    history-marked (IsMarked (λ client number answer. g.F.Fn.post c.args.returned (client, (number, tt)) answer)) c.as_slice.result.now c.args.self.now c.in_ok-order.order.items c.as_slice-2.result.now list.items
-    (ap (map placed_of) c.as_slice.ensures.value ∙ c.self.view_is) c.in_ok-order.ensures c.as_slice-2.ensures.value is) c.marked.ensures
+    history-marked (IsMarked (λ client number answer. g.F.Fn.post c.args.returned (client, (number, tt)) answer)) c.args.self.now.placed c.in_ok-order.order.items c.as_slice.result.now list.items
+    c.in_ok-order.ensures c.as_slice.ensures.value is) c.marked.ensures
