@@ -1,9 +1,11 @@
-ghost use Rattle.std.specs.Prelude.{◌≡◌, ◌↔◌, ℕ, ◌≤◌};
+ghost use Rattle.std.specs.Prelude.{◌≡◌, ◌↔◌, ℕ, ◌*◌, ◌<◌, ◌≤◌, IfSome, None, Some};
+ghost use Rattle.std.specs.Option.{option_map_or};
 ghost use Rattle.client_recovery.specs.Causes.{IsDone, IsSealed, IsUnchanged};
 ghost use Rattle.machine.specs.Places.{IsInPool};
 ghost use Rattle.machine.specs.Recovery.{next, turn};
 ghost use Rattle.machine.specs.RecoveryStage.{recovery_of};
 ghost use Rattle.machine.specs.declared.recovery.Recovering.TheVariants.{NotYet, Recovered};
+ghost use Rattle.machine_world.specs.Events.{final_of_recovery, settles_call};
 ghost use Rattle.verb_words.specs.Verb.{place_of};
 ghost use Rattle.verb_words.specs.declared.verbs.Answer.TheVariants as answer_is;
 ghost use Rattle.verb_words.specs.declared.verbs.Why.TheVariants.{Lost, Sealed, Unchanged};
@@ -71,6 +73,38 @@ impl Recovery {
         ensures { result ≡ self.now.won }
     {
         self.progress.won
+    }
+
+    /// The client that is recovered.
+    pub fn client(&self) -> u32
+        ensures { result ≡ self.now.client }
+    {
+        self.progress.client
+    }
+
+    /// The slot and the word that the verb that is due puts on the slot's primary, where the slot write
+    /// has come so far.
+    pub fn final_swap(&self) -> Option<(u32, u64)>
+        ensures swap { result ≡ option_map_or (λ write. Some (write.slot, write.fresh))
+            (final_of_recovery self.now.stage) None }
+        ensures slot { IfSome result (λ swap. swap.0 < 24 * self.now.shape.groups) }
+    {
+        match &self.progress.stage {
+            Stage::WriteSlot(write) if write.is_final() => Some((write.slot(), write.fresh())),
+            _ => None,
+        }
+    }
+
+    /// Whether the answer to the verb that is due settles the client's last call: its begin word is
+    /// found even, or is made even.
+    pub fn settles(&self, answer: Answer) -> bool
+        ensures { result ≡ settles_call self.now.stage answer }
+    {
+        match (&self.progress.stage, answer) {
+            (Stage::ReadBegin, Answer::Word(found)) => found % 2 == 0,
+            (Stage::WriteBegin, Answer::Done) => true,
+            _ => false,
+        }
     }
 
     /// The verb that is due.

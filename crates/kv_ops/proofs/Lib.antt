@@ -10,3 +10,4 @@ pub mod TestLemmas
 pub mod ToldLemmas
 pub mod TurnedLemmas
 pub mod ViewLemmas
+mod FreshLemmas

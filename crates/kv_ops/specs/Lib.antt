@@ -6,3 +6,4 @@ pub mod Standings
 pub mod Stepping
 pub mod Causes
 pub mod Passed
+pub mod Ahead

@@ -28,7 +28,7 @@ use verb_words::{Answer, Verb};
 /// that tells that the call ended.
 #[derive(Drop)]
 pub struct Actor {
-    caller: Caller,
+    pub(crate) caller: Caller,
 }
 
 impl Model for Actor {

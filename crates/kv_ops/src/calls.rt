@@ -1,6 +1,6 @@
 /// What a call does.
 #[derive(Clone, Copy, Debug, PartialEq, Eq)]
-pub(crate) enum Operation {
+pub enum Operation {
     Get,
     Put,
     Delete,

@@ -8,11 +8,13 @@ mod epochs;
 mod invocations;
 pub mod laws;
 mod outcomes;
+mod readings;
 mod remembered;
 mod stages;
 mod turns;
 
 pub use actor::Actor;
+pub use calls::Operation;
 pub use machine::client_call::{Before, Outcome, Step};
 
 #[cfg(test)]

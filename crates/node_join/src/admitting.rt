@@ -59,6 +59,13 @@ impl Join {
         }
     }
 
+    /// The node that is admitted.
+    pub fn node(&self) -> u32
+        ensures { result ≡ self.now.node }
+    {
+        self.node
+    }
+
     /// The verb that is due.
     pub fn next(&self) -> Verb
         ensures verb { result ≡ next self.now }

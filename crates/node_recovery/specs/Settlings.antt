@@ -1,5 +1,5 @@
 -- A settling of the program as one of the machine, and what is true of it.
-use Rattle.std.specs.Prelude.{◌≡◌, ℕ, ◌+◌, ◌-◌, ◌%◌, ◌^◌, ◌<◌, ◌≤◌, false, nat_lt, if◌then◌else◌, List, Option, Some, None}
+use Rattle.std.specs.Prelude.{◌≡◌, ℕ, ◌+◌, ◌-◌, ◌%◌, ◌^◌, ◌<◌, ◌≤◌, Bool, true, false, nat_lt, if◌then◌else◌, List, Option, Some, None}
 use Rattle.machine.specs.Settling as machine
 use Rattle.machine.specs.Settling.{IsSettling, Settling, source_view, targets}
 use Rattle.machine.specs.Copying.{copied_words, read_place_of}
@@ -17,6 +17,11 @@ phase_of (ReadStatus node live) = machine.ReadStatus node live
 phase_of ReadWord = machine.ReadWord
 phase_of (WriteWord word target) = machine.WriteWord word target
 phase_of Open = machine.Open
+
+-- whether the next view is opened next
+abbrev pub is_opening : machine.Phase → Bool
+is_opening machine.Open = true
+is_opening phase = false
 
 abbrev pub settling_at : Sizes → ℕ → ℕ → ℕ → ℕ → ℕ → ℕ → Phase → Settling
 settling_at sizes stopped sealed sources mask region offset phase = record {

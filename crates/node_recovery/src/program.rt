@@ -2,6 +2,7 @@ ghost use Rattle.std.specs.Prelude.{◌≡◌, ◌≢◌, ◌↔◌, ℕ, ◌%�
 ghost use Rattle.machine.specs.Places.{IsInPool};
 ghost use Rattle.machine.specs.Settling.{Open, ReadPause, next, opened_word, place_of_pair, settling_of, turn};
 ghost use Rattle.machine.specs.declared.settling.Settled.TheVariants.{NotYet, Opened};
+ghost use Rattle.node_recovery.specs.Settlings.{is_opening};
 ghost use Rattle.region_view.specs.Placed.{in_mask};
 ghost use Rattle.verb_words.specs.Verb.{place_of};
 ghost use Rattle.verb_words.specs.declared.verbs.Answer.TheVariants.{Done, Word};
@@ -87,6 +88,29 @@ impl Settling {
                 to: ArrayVec::new(),
             },
             phase: Phase::ReadEpoch,
+        }
+    }
+
+    /// The clients that were stopped when the settling was chosen: bit c - 1 for client c.
+    pub fn stopped(&self) -> u64
+        ensures { result ≡ self.now.stopped }
+    {
+        self.stopped
+    }
+
+    /// Whether the verb that is due opens the next view.
+    pub fn is_opening(&self) -> bool
+        ensures { result ≡ is_opening self.now.phase }
+    {
+        match self.phase {
+            Phase::Open => true,
+            Phase::ReadEpoch => false,
+            Phase::Seal => false,
+            Phase::ReadBegin(_) => false,
+            Phase::ReadPause { .. } => false,
+            Phase::ReadStatus { .. } => false,
+            Phase::ReadWord => false,
+            Phase::WriteWord { .. } => false,
         }
     }
 

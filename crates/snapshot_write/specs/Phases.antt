@@ -1,5 +1,5 @@
 -- A slot write of the program as one of the machine.
-use Rattle.std.specs.Prelude.{ℕ, List}
+use Rattle.std.specs.Prelude.{ℕ, Bool, true, false, List}
 use Rattle.machine.specs.SlotWrite as machine
 use Rattle.machine.specs.SlotWrite.{SlotWrite}
 use Rattle.region_view.specs.Placed.{Viewed}
@@ -16,3 +16,8 @@ phase_of Wait = machine.Wait
 abbrev pub write_of : Viewed → ℕ → ℕ → ℕ → List ℕ → Phase → SlotWrite
 write_of view slot expect fresh list phase =
     record { view = view; slot = slot; expect = expect; fresh = fresh; list = list; phase = phase_of phase }
+
+-- whether the word is put on the primary next
+abbrev pub is_final : machine.Phase → Bool
+is_final machine.Final = true
+is_final phase = false

@@ -3,7 +3,7 @@ ghost use Rattle.machine.specs.Places.{IsInPool, place_at};
 ghost use Rattle.machine.specs.SlotWrite.{Gather, gathered, judged, listed, mend_from, next, on_verdict, slot_write_of, turn, turn_at};
 ghost use Rattle.machine.specs.declared.slot_write.Wrote.TheVariants.{Won, Changed, Unchanged, Refused};
 ghost use Rattle.snapshot_write.specs.Causes.{HasLost, IsFinalSwap, ReadsPrimary};
-ghost use Rattle.snapshot_write.specs.Phases.{phase_of};
+ghost use Rattle.snapshot_write.specs.Phases.{is_final, phase_of};
 ghost use Rattle.snapshot_write.specs.States.{IsUnderWay, homes};
 ghost use Rattle.verb_words.specs.Verb.{place_of};
 ghost use Rattle.verb_words.specs.declared.verbs.Answer.TheVariants.{Word, Lost};
@@ -92,6 +92,26 @@ impl SlotWrite {
         ensures { result ≡ self.now.expect }
     {
         self.expect
+    }
+
+    /// The word that is to take its place.
+    pub fn fresh(&self) -> u64
+        ensures { result ≡ self.now.fresh }
+    {
+        self.fresh
+    }
+
+    /// Whether the verb that is due puts the word on the primary.
+    pub fn is_final(&self) -> bool
+        ensures { result ≡ is_final self.now.phase }
+    {
+        match self.phase {
+            Phase::Final => true,
+            Phase::Gather => false,
+            Phase::Mend(_) => false,
+            Phase::Check => false,
+            Phase::Wait => false,
+        }
     }
 
     /// The verb that is due.
