@@ -2,7 +2,17 @@
 //! happen to them, and what is kept of the past.
 #![tactic(auto)]
 
+mod advancing;
+mod calling;
+mod calls;
+mod dues;
+mod openings;
+mod outside;
+mod readings;
 mod refusals;
+mod steps;
+mod tasks;
+mod works;
 mod worlds;
 
 pub use machine_world::events::{Event, Task};

@@ -22,7 +22,8 @@ pub(crate) enum Working {
     Join(Join),
 }
 
-/// The world: its words, its clients, its master, and what is kept of the past.
+/// The world: its words, its clients, its master, and what is kept of the past. It is always one that
+/// some list of events leads to from its opening.
 #[derive(Drop)]
 pub struct World {
     pub(crate) shape: Shape,
@@ -43,9 +44,9 @@ pub struct World {
 
 impl Model for World {
     ghost use Rattle.std.specs.Prelude.{◌∷◌, map};
-    ghost use Rattle.machine_world.specs.Standing.{StandsWell};
     ghost use Rattle.machine_world.specs.World.{World, nobody};
     ghost use Rattle.verb_history.specs.Moments.{moment_of};
+    ghost use Rattle.world_core.specs.Reached.{IsRun};
     ghost use Rattle.world_core.specs.Working.{task_of};
 
     ghost Value = { World };
@@ -61,7 +62,7 @@ impl Model for World {
       events = w.events;
     } };
 
-    ghost invariant = { λ w. StandsWell (record {
+    ghost invariant = { λ w. IsRun (record {
       shape = w.shape;
       nodes = w.nodes;
       clients = nobody w.shape ∷ w.clients.items;
@@ -93,20 +94,6 @@ impl World {
             ledger: Ledger::new(alloc, &shape)?,
             events: 0,
         })
-    }
-
-    /// The words of all nodes.
-    pub fn nodes(&self) -> &Nodes
-        ensures { result.now ≡ self.now.nodes }
-    {
-        &self.nodes
-    }
-
-    /// The sizes of the pool.
-    pub fn shape(&self) -> Shape
-        ensures { result ≡ self.now.shape }
-    {
-        self.shape
     }
 
     pub(crate) fn is_registered(&self, client: u32) -> bool

@@ -1,16 +1,11 @@
-use Rattle.std.proofs.Common.{ap, arith, length, map, subst, ◌∙◌}
-use Rattle.machine_world.proofs.StandingLemmas.{first_world-stands}
+use Rattle.std.proofs.Common.{ap, map, subst, ◌∙◌}
 use Rattle.region_view.specs.Sizes.{IsWithinLimits}
+use Rattle.verb_history.specs.Moments.{moment_of}
+use Rattle.world_core.proofs.ReachedLemmas.{opened-run}
 use Rattle.world_core.proofs.worlds.World.new.Goals as goal
 
 pub invariant_of-result : goal.invariant_of-result
 invariant_of-result c =
-    let limits = subst IsWithinLimits c.shape.view_is c.shape.invariant in
-    let none = ap length c.new.ensures.items in
-    record {
-      limits = limits;
-      words = ap (map length) (c.of_words.ensures ∙ c.in_ok-first_words.ensures) ∙ (first_world-stands c.args.shape limits).words;
-      few = omega (arith, none);
-      each = λ client least under. absurd (omega (arith, none, least, under));
-      task = tt;
-    }
+    opened-run c.args.shape c.of_words.result c.new.result.items c.new-2.result c.new-3.result c.new-4.result c.new-5.result (map moment_of c.new-6.result.items) c.in_ok-new.field-0.ledger
+    (subst IsWithinLimits c.shape.view_is c.shape.invariant) (c.of_words.ensures ∙ c.in_ok-first_words.ensures) c.new.ensures.items c.new-2.ensures c.new-3.ensures c.new-4.ensures c.new-5.ensures
+    (ap (map moment_of) c.new-6.ensures.items) c.in_ok-new.ensures
