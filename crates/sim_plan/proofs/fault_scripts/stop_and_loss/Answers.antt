@@ -1,0 +1,7 @@
+use Rattle.std.specs.Prelude.{codes}
+use Rattle.sim_plan.proofs.ScriptLemmas.{wrote_numbered_line}
+use Rattle.sim_plan.proofs.fault_scripts.stop_and_loss.Goals as goal
+
+pub returns : goal.returns
+returns c =
+    wrote_numbered_line c.format.result (codes "call 1 put a 1\nstep 1 ") c.args.verbs (codes "stop 1\nlose 1\ncall 2 put a 2\ngo 2\nsettle\ngo 2\nsettle\ngo 2\nrecover 1\nget 2 a\n") c.format.ensures.ok

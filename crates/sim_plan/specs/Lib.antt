@@ -1,0 +1,2 @@
+pub mod FaultScript
+pub mod Made
