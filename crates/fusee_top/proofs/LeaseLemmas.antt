@@ -11,9 +11,9 @@ use Rattle.lease_core.specs.declared.answering.LeaseAnswer.TheVariants as told
 use Rattle.lease_core.specs.declared.lease_lines.LeaseLine.{LeaseLine}
 use Rattle.lease_core.proofs.FrontLemmas.{answers_along-more, run_along-more}
 use Rattle.outside.proofs.AppendedLemmas.{appends_then}
-use Rattle.fusee_top.specs.Written.{Stops}
-use Rattle.fusee_top.specs.declared.writing.Unwritten.{Unwritten}
-use Rattle.fusee_top.proofs.WrittenLemmas.{stops_then}
+use Rattle.script_run.specs.Written.{Stops}
+use Rattle.script_run.specs.declared.writing.Unwritten.{Unwritten}
+use Rattle.script_run.proofs.WrittenLemmas.{stops_then}
 
 answers_along-cut : (run : Run) (lines : List LeaseLine) (i : ℕ) (line : LeaseLine) → i < length lines → line ≡ get_or lines i line
     → answers_along run lines ≡ answers_along run (take i lines) ++ (answer_of (run_along run (take i lines)) line ∷ answers_along (run_after (run_along run (take i lines)) line) (drop (suc i) lines))

@@ -1,13 +1,6 @@
 pub mod CommandLemmas
-pub mod FitLemmas
 pub mod LeaseLemmas
-pub mod ListLemmas
 pub mod OfflineLemmas
 pub mod OptionLemmas
 pub mod ReadLemmas
-pub mod RecordsLemmas
-pub mod RunLemmas
-pub mod SmallLemmas
-pub mod ToldLemmas
-pub mod WordLemmas
 pub mod WrittenLemmas

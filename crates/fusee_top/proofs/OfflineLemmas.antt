@@ -9,8 +9,13 @@ use Rattle.lease_core.specs.Terms.{Agreed, AreTerms}
 use Rattle.lease_core.specs.declared.lease_lines.LeaseLine.{LeaseLine}
 use Rattle.lease_core.specs.declared.reading.LeaseKind.{LeaseKind}
 use Rattle.lease_core.proofs.FencingLemmas.{no_lawful_after}
+use Rattle.outside.proofs.AppendedLemmas.{front_of_all}
+use Rattle.script_meaning.specs.Scripts.{rendered}
+use Rattle.script_run.specs.declared.running.TheConstants.{MOST_WORDS}
 use Rattle.script_text.specs.OutputRead.{Bad, output_of}
 use Rattle.script_text.specs.ScriptForm.{Fault, Plan, reading_of}
+use Rattle.script_text.specs.ScriptRead.{plan_of}
+use Rattle.script_text.specs.declared.scripts.Script.{Script}
 use Rattle.script_text.proofs.ScriptFormLemmas.{means-reading_of, reading_of-means}
 use Rattle.script_text.specs.declared.out_lines.OutLine.{OutLine}
 use Rattle.text_lines.specs.Lines as text
@@ -20,19 +25,14 @@ use Rattle.script_text.specs.declared.faults.BadKind.{BadKind}
 use Rattle.fusee_top.specs.Notices.{bad_line_text}
 use Rattle.fusee_top.specs.Verdict.{verdict_text}
 use Rattle.fusee_top.specs.Course.{Concludes, Ends, Starves, EndsIn, SinkCourse, SourceCourse, ReadFailed, WriteFailed, Wrote}
-use Rattle.fusee_top.specs.Endings.{Comes, Ending, IsOutputEnding, Ran, Told, ending_status, ending_text, events_ending, output_status, read_ending, small_ending, status_of}
+use Rattle.fusee_top.specs.Endings.{Comes, Ending, IsOutputEnding, Ran, Told, ending_status, ending_text, events_ending, output_status, printed, read_ending, sized_ending, status_of}
 use Rattle.fusee_top.specs.Input.{WasAll}
-use Rattle.fusee_top.specs.Offline.{Answers, HasBadLine, HasReadFault, HasTooManyWords, HasUsage, IsAccepted, IsNotBuilt, IsStatus, IsTooLarge, Meets, Outcome, RanAudit, RanLeases, RanScript, ReadFault, TooLarge, Usage, Whole, input_status, outcome_ending}
-use Rattle.fusee_top.specs.Run.{lines_of}
+use Rattle.fusee_top.specs.Offline.{Answers, HasBadLine, HasReadFault, HasTooManyWords, HasUsage, IsAccepted, IsStatus, IsTooLarge, LeavesFront, Meets, Outcome, RanAudit, RanLeases, RanScript, ReadFault, TooLarge, Usage, Whole, input_status, outcome_ending}
 use Rattle.fusee_top.specs.Sizes.{shape_words}
-use Rattle.fusee_top.specs.Small.{SmallPlan, small_plan_of}
 use Rattle.fusee_top.specs.declared.commands.Command.{Command}
 use Rattle.fusee_top.specs.declared.commands.Command.TheVariants as command
 use Rattle.fusee_top.specs.declared.notices.Notice.TheVariants as notice
 use Rattle.fusee_top.specs.declared.reading.TheConstants.{LIMIT}
-use Rattle.fusee_top.specs.declared.scripts.TheConstants.{MOST_WORDS}
-use Rattle.fusee_top.proofs.FitLemmas.{IsVerdict-lines_of}
-use Rattle.fusee_top.proofs.ToldLemmas.{IsLinear-lines_of}
 
 -- ---- what was met, where the answer is neither 5 nor 6
 
@@ -67,29 +67,22 @@ over n is = grind (arith, nat_tests)
 below : (n : ℕ) → n ≤ MOST_WORDS → nat_lt MOST_WORDS n ≡ false
 below n few = grind (arith, nat_tests)
 
-sized_ran : (source : SourceCourse) (sink : SinkCourse) (input : List ℕ) (plan : Plan) (large : Bool) (small : Result SmallPlan ℕ) (ending : Ending)
-    → WasAll source.left source.left_now input → reading_of input ≡ Ok plan → nat_lt MOST_WORDS (shape_words plan.shape) ≡ large → small_plan_of plan ≡ small
-    → ending ≡ (if large then Told (notice.TooLarge (shape_words plan.shape)) else small_ending small) → ending_status ending ≡ 0 → Wrote sink (ending_text ending) → RanScript source sink
-sized_ran source sink input plan true small ending was read large_is small_is is status wrote = let seven = ap ending_status is in absurd (omega arith)
-sized_ran source sink input plan false (Ok small) ending was read large_is small_is is status wrote = record {
+sized_ran : (source : SourceCourse) (sink : SinkCourse) (input : List ℕ) (plan : Plan) (large : Bool) (ending : Ending)
+    → WasAll source.left source.left_now input → reading_of input ≡ Ok plan → nat_lt MOST_WORDS (shape_words plan.shape) ≡ large
+    → ending ≡ (if large then Told (notice.TooLarge (shape_words plan.shape)) else Ran (printed plan)) → ending_status ending ≡ 0 → Wrote sink (ending_text ending) → RanScript source sink
+sized_ran source sink input plan true ending was read large_is is status wrote = let seven = ap ending_status is in absurd (omega arith)
+sized_ran source sink input plan false ending was read large_is is status wrote = record {
   input = input;
   plan = plan;
-  small = small;
-  lines = lines_of small;
   read = was;
   script = means-reading_of input plan read;
   within = not_over (shape_words plan.shape) large_is;
-  form = small_is;
-  run = refl;
   wrote = rw is at wrote;
-  linear = IsLinear-lines_of small;
-  verdict = IsVerdict-lines_of small;
 }
-sized_ran source sink input plan false (Err line) ending was read large_is small_is is status wrote = let eight = ap ending_status is in absurd (omega arith)
 
 script_ran : (source : SourceCourse) (sink : SinkCourse) (input : List ℕ) (read : Result Plan Fault) (ending : Ending)
     → WasAll source.left source.left_now input → reading_of input ≡ read → ending ≡ read_ending read → ending_status ending ≡ 0 → Wrote sink (ending_text ending) → RanScript source sink
-script_ran source sink input (Ok plan) ending was read_is is status wrote = sized_ran source sink input plan (nat_lt MOST_WORDS (shape_words plan.shape)) (small_plan_of plan) ending was read_is refl refl is status wrote
+script_ran source sink input (Ok plan) ending was read_is is status wrote = sized_ran source sink input plan (nat_lt MOST_WORDS (shape_words plan.shape)) ending was read_is refl is status wrote
 script_ran source sink input (Err fault) ending was read_is is status wrote = let three = ap ending_status is in absurd (omega arith)
 
 script_of : (named : Option Command) (source : SourceCourse) (sink : SinkCourse) (outcome : Outcome) → named ≡ Some command.Script → Meets named source outcome
@@ -168,15 +161,14 @@ RanLeases-answers named source sink result terms answers is names are =
 -- ---- the statuses of an input
 
 abbrev IsInputStatus : ℕ → Type 0
-IsInputStatus status = (status ≡ 0) ⊎ ((status ≡ 3) ⊎ ((status ≡ 7) ⊎ (status ≡ 8)))
+IsInputStatus status = (status ≡ 0) ⊎ ((status ≡ 3) ⊎ (status ≡ 7))
 
-small_status : (count : ℕ) (large : Bool) (small : Result SmallPlan ℕ) → IsInputStatus (ending_status (if large then Told (notice.TooLarge count) else small_ending small))
-small_status count true small = inr (inr (inl refl))
-small_status count false (Ok small) = inl refl
-small_status count false (Err line) = inr (inr (inr refl))
+sized_status : (count : ℕ) (text : List ℕ) (large : Bool) → IsInputStatus (ending_status (if large then Told (notice.TooLarge count) else Ran text))
+sized_status count text true = inr (inr refl)
+sized_status count text false = inl refl
 
 read_status : (read : Result Plan Fault) → IsInputStatus (ending_status (read_ending read))
-read_status (Ok plan) = small_status (shape_words plan.shape) (nat_lt MOST_WORDS (shape_words plan.shape)) (small_plan_of plan)
+read_status (Ok plan) = sized_status (shape_words plan.shape) (printed plan) (nat_lt MOST_WORDS (shape_words plan.shape))
 read_status (Err fault) = inr (inl refl)
 
 verdict_status : (read : Result (List OutLine) Bad) → IsInputStatus (output_status read)
@@ -202,14 +194,13 @@ ending_status-comes command.Script input ending comes = ap ending_status comes
 ending_status-comes command.Audit input ending comes = output_ends (output_of input) ending comes
 ending_status-comes (command.Leases terms) input ending comes = ap ending_status comes
 
-other_status : (command : Command) (input : List ℕ) (ending : Ending) (n : ℕ) → Comes command input ending → ending_status ending ≡ n → n ≢ 0 → n ≢ 3 → n ≢ 7 → n ≢ 8 → ⊥
-other_status command input ending n comes is zero three seven eight =
+other_status : (command : Command) (input : List ℕ) (ending : Ending) (n : ℕ) → Comes command input ending → ending_status ending ≡ n → n ≢ 0 → n ≢ 3 → n ≢ 7 → ⊥
+other_status command input ending n comes is zero three seven =
     let same = ending_status-comes command input ending comes in
     elim (status_of-input command input) [
       | inl e ↦ zero (sym is ∙ same ∙ e)
       | inr (inl e) ↦ three (sym is ∙ same ∙ e)
-      | inr (inr (inl e)) ↦ seven (sym is ∙ same ∙ e)
-      | inr (inr (inr e)) ↦ eight (sym is ∙ same ∙ e)
+      | inr (inr e) ↦ seven (sym is ∙ same ∙ e)
     ]
 
 -- ---- 2, 3 and 4
@@ -219,7 +210,7 @@ usage_of : (named : Option Command) (source : SourceCourse) (sink : SinkCourse) 
 usage_of named source sink Usage meets status wrote = record { none = meets; wrote = wrote }
 usage_of named source sink ReadFault meets status wrote = absurd (omega arith)
 usage_of named source sink TooLarge meets status wrote = absurd (omega arith)
-usage_of named source sink (Whole command input ending) meets status wrote = absurd (other_status command input ending 2 meets.2 status (omega arith) (omega arith) (omega arith) (omega arith))
+usage_of named source sink (Whole command input ending) meets status wrote = absurd (other_status command input ending 2 meets.2 status (omega arith) (omega arith) (omega arith))
 
 pub HasUsage-answers : (named : Option Command) (source : SourceCourse) (sink : SinkCourse) (result : ℕ) → Answers named source sink result → result ≡ 2 → HasUsage named sink
 HasUsage-answers named source sink result answers is =
@@ -243,7 +234,7 @@ fault_of : (named : Option Command) (source : SourceCourse) (sink : SinkCourse) 
 fault_of named source sink Usage meets status wrote = absurd (omega arith)
 fault_of named source sink ReadFault meets status wrote = record { failed = meets.1; wrote = wrote }
 fault_of named source sink TooLarge meets status wrote = absurd (omega arith)
-fault_of named source sink (Whole command input ending) meets status wrote = absurd (other_status command input ending 4 meets.2 status (omega arith) (omega arith) (omega arith) (omega arith))
+fault_of named source sink (Whole command input ending) meets status wrote = absurd (other_status command input ending 4 meets.2 status (omega arith) (omega arith) (omega arith))
 
 pub HasReadFault-answers : (named : Option Command) (source : SourceCourse) (sink : SinkCourse) (result : ℕ) → Answers named source sink result → result ≡ 4 → HasReadFault source sink
 HasReadFault-answers named source sink result answers is =
@@ -257,7 +248,6 @@ bad_ending named source sink command input (Told notice.ReadFault) names was com
 bad_ending named source sink command input (Told (notice.TooLarge count)) names was comes status wrote = absurd (omega arith)
 bad_ending named source sink command input (Told (notice.BadLine number kind)) names was comes status wrote =
     record { command = command; input = input; number = number; kind = kind; names = names; read = was; bad = comes; wrote = wrote }
-bad_ending named source sink command input (Told (notice.NotBuilt line)) names was comes status wrote = absurd (omega arith)
 bad_ending named source sink command input (Ran text) names was comes status wrote = absurd (omega arith)
 
 bad_of : (named : Option Command) (source : SourceCourse) (sink : SinkCourse) (outcome : Outcome) → Meets named source outcome
@@ -282,22 +272,29 @@ write_fault_of named source sink result (inr (Usage, meets, inl p)) is = let two
 write_fault_of named source sink result (inr (ReadFault, meets, inl p)) is = let four = p.0 in absurd (omega arith)
 write_fault_of named source sink result (inr (TooLarge, meets, inl p)) is = let seven = p.0 in absurd (omega arith)
 write_fault_of named source sink result (inr (Whole command input ending, meets, inl p)) is =
-    absurd (other_status command input ending 5 meets.2 (sym p.0 ∙ is) (omega arith) (omega arith) (omega arith) (omega arith))
+    absurd (other_status command input ending 5 meets.2 (sym p.0 ∙ is) (omega arith) (omega arith) (omega arith))
 
--- ---- 7 and 8
+-- ---- 5 and 6
 
-sized_large : (named : Option Command) (source : SourceCourse) (sink : SinkCourse) (input : List ℕ) (plan : Plan) (large : Bool) (small : Result SmallPlan ℕ) (ending : Ending)
+pub LeavesFront-answers : (named : Option Command) (source : SourceCourse) (sink : SinkCourse) (result : ℕ) → Answers named source sink result → LeavesFront named source sink
+LeavesFront-answers named source sink result (inl p) = inl p.1
+LeavesFront-answers named source sink result (inr (outcome, meets, inl p)) = inr (outcome, meets, front_of_all sink.held sink.held_now _ p.1)
+LeavesFront-answers named source sink result (inr (outcome, meets, inr (inl p))) = inr (outcome, meets, p.2)
+LeavesFront-answers named source sink result (inr (outcome, meets, inr (inr p))) = inr (outcome, meets, p.1)
+
+-- ---- 7
+
+sized_large : (named : Option Command) (source : SourceCourse) (sink : SinkCourse) (input : List ℕ) (plan : Plan) (large : Bool) (ending : Ending)
     → named ≡ Some command.Script → WasAll source.left source.left_now input → reading_of input ≡ Ok plan → nat_lt MOST_WORDS (shape_words plan.shape) ≡ large
-    → ending ≡ (if large then Told (notice.TooLarge (shape_words plan.shape)) else small_ending small) → ending_status ending ≡ 7 → Wrote sink (ending_text ending) → HasTooManyWords named source sink
-sized_large named source sink input plan true small ending names was read large_is is status wrote =
+    → ending ≡ (if large then Told (notice.TooLarge (shape_words plan.shape)) else Ran (printed plan)) → ending_status ending ≡ 7 → Wrote sink (ending_text ending) → HasTooManyWords named source sink
+sized_large named source sink input plan true ending names was read large_is is status wrote =
     record { input = input; plan = plan; names = names; read = was; script = means-reading_of input plan read; over = over (shape_words plan.shape) large_is; wrote = rw is at wrote }
-sized_large named source sink input plan false (Ok small) ending names was read large_is is status wrote = let zero = ap ending_status is in absurd (omega arith)
-sized_large named source sink input plan false (Err line) ending names was read large_is is status wrote = let eight = ap ending_status is in absurd (omega arith)
+sized_large named source sink input plan false ending names was read large_is is status wrote = let zero = ap ending_status is in absurd (omega arith)
 
 read_large : (named : Option Command) (source : SourceCourse) (sink : SinkCourse) (input : List ℕ) (read : Result Plan Fault) (ending : Ending)
     → named ≡ Some command.Script → WasAll source.left source.left_now input → reading_of input ≡ read → ending ≡ read_ending read → ending_status ending ≡ 7 → Wrote sink (ending_text ending) → HasTooManyWords named source sink
 read_large named source sink input (Ok plan) ending names was read_is is status wrote =
-    sized_large named source sink input plan (nat_lt MOST_WORDS (shape_words plan.shape)) (small_plan_of plan) ending names was read_is refl is status wrote
+    sized_large named source sink input plan (nat_lt MOST_WORDS (shape_words plan.shape)) ending names was read_is refl is status wrote
 read_large named source sink input (Err fault) ending names was read_is is status wrote = let three = ap ending_status is in absurd (omega arith)
 
 no_verdict : (read : Result (List OutLine) Bad) (n : ℕ) → output_status read ≡ n → n ≢ 0 → n ≢ 3 → ⊥
@@ -308,7 +305,7 @@ no_event : (terms : Agreed) (read : Result (List LeaseLine) (ℕ × LeaseKind)) 
 no_event terms (Ok lines) n is zero three = zero (sym is)
 no_event terms (Err bad) n is zero three = three (sym is)
 
--- 7 and 8 come of scripts alone
+-- of commands scripts alone come to 7
 only_script : (called : Command) (input : List ℕ) (ending : Ending) (n : ℕ) → Comes called input ending → ending_status ending ≡ n → n ≢ 0 → n ≢ 3 → called ≡ command.Script
 only_script command.Script input ending n comes is zero three = refl
 only_script command.Audit input ending n comes is zero three = absurd (no_verdict (output_of input) n (sym (ending_status-comes command.Audit input ending comes) ∙ is) zero three)
@@ -328,35 +325,6 @@ pub IsTooLarge-answers : (named : Option Command) (source : SourceCourse) (sink 
 IsTooLarge-answers named source sink result answers is =
     let m = met named source sink result 7 answers is (omega arith) (omega arith) in
     large_of named source sink m.outcome m.meets m.status_is m.wrote
-
-sized_leaves : (named : Option Command) (source : SourceCourse) (sink : SinkCourse) (input : List ℕ) (plan : Plan) (large : Bool) (small : Result SmallPlan ℕ) (ending : Ending)
-    → named ≡ Some command.Script → WasAll source.left source.left_now input → reading_of input ≡ Ok plan → nat_lt MOST_WORDS (shape_words plan.shape) ≡ large → small_plan_of plan ≡ small
-    → ending ≡ (if large then Told (notice.TooLarge (shape_words plan.shape)) else small_ending small) → ending_status ending ≡ 8 → Wrote sink (ending_text ending) → IsNotBuilt named source sink
-sized_leaves named source sink input plan true small ending names was read large_is small_is is status wrote = let seven = ap ending_status is in absurd (omega arith)
-sized_leaves named source sink input plan false (Ok small) ending names was read large_is small_is is status wrote = let zero = ap ending_status is in absurd (omega arith)
-sized_leaves named source sink input plan false (Err line) ending names was read large_is small_is is status wrote =
-    record { input = input; plan = plan; line = line; names = names; read = was; script = means-reading_of input plan read; within = not_over (shape_words plan.shape) large_is; leaves = small_is; wrote = rw is at wrote }
-
-read_leaves : (named : Option Command) (source : SourceCourse) (sink : SinkCourse) (input : List ℕ) (read : Result Plan Fault) (ending : Ending)
-    → named ≡ Some command.Script → WasAll source.left source.left_now input → reading_of input ≡ read → ending ≡ read_ending read → ending_status ending ≡ 8 → Wrote sink (ending_text ending) → IsNotBuilt named source sink
-read_leaves named source sink input (Ok plan) ending names was read_is is status wrote =
-    sized_leaves named source sink input plan (nat_lt MOST_WORDS (shape_words plan.shape)) (small_plan_of plan) ending names was read_is refl refl is status wrote
-read_leaves named source sink input (Err fault) ending names was read_is is status wrote = let three = ap ending_status is in absurd (omega arith)
-
-leaves_of : (named : Option Command) (source : SourceCourse) (sink : SinkCourse) (outcome : Outcome) → Meets named source outcome
-    → ending_status (outcome_ending outcome) ≡ 8 → Wrote sink (ending_text (outcome_ending outcome)) → IsNotBuilt named source sink
-leaves_of named source sink Usage meets status wrote = absurd (omega arith)
-leaves_of named source sink ReadFault meets status wrote = absurd (omega arith)
-leaves_of named source sink TooLarge meets status wrote = absurd (omega arith)
-leaves_of named source sink (Whole command input ending) meets status wrote =
-    let script = only_script command input ending 8 meets.2 status (omega arith) (omega arith) in
-    let comes = rw script at meets.2 in
-    read_leaves named source sink input (reading_of input) ending (meets.0 ∙ ap Some script) meets.1 refl comes status wrote
-
-pub IsNotBuilt-answers : (named : Option Command) (source : SourceCourse) (sink : SinkCourse) (result : ℕ) → Answers named source sink result → result ≡ 8 → IsNotBuilt named source sink
-IsNotBuilt-answers named source sink result answers is =
-    let m = met named source sink result 8 answers is (omega arith) (omega arith) in
-    leaves_of named source sink m.outcome m.meets m.status_is m.wrote
 
 -- ---- what the input decides
 
@@ -397,8 +365,8 @@ decided_by named source sink result command input (inr (Whole other read ending,
 
 accepted_status : (command : Command) (input : List ℕ) → IsAccepted command input → input_status command input ≡ 0
 accepted_status command.Script input accepted =
-    let means = reading_of-means input accepted.1.0 accepted.1.2 in
-    rw (within_limit (length input) accepted.0, means, below (shape_words accepted.1.0.shape) accepted.1.3, accepted.1.4) refl
+    let means = reading_of-means input accepted.1.0 accepted.1.1 in
+    rw (within_limit (length input) accepted.0, means, below (shape_words accepted.1.0.shape) accepted.1.2) refl
 accepted_status command.Audit input accepted = rw (within_limit (length input) accepted.0, accepted.1.1) refl
 accepted_status (command.Leases terms) input accepted = rw (within_limit (length input) accepted.0, accepted.1.1) refl
 
@@ -425,18 +393,25 @@ input_is_status command input ending comes =
     elim (status_of-input command input) [
       | inl e ↦ inl (same ∙ e)
       | inr (inl e) ↦ inr (inr (inl (same ∙ e)))
-      | inr (inr (inl e)) ↦ inr (inr (inr (inr (inr (inr (inl (same ∙ e)))))))
-      | inr (inr (inr e)) ↦ inr (inr (inr (inr (inr (inr (inr (same ∙ e)))))))
+      | inr (inr e) ↦ inr (inr (inr (inr (inr (inr (same ∙ e))))))
     ]
 
 pub IsStatus-answers : (named : Option Command) (source : SourceCourse) (sink : SinkCourse) (result : ℕ) → Answers named source sink result → IsStatus result
 IsStatus-answers named source sink result (inl p) = inr (inr (inr (inr (inr (inl p.0)))))
 IsStatus-answers named source sink result (inr (Usage, meets, ends)) = ended_status sink _ 2 result ends (inr (inl refl))
 IsStatus-answers named source sink result (inr (ReadFault, meets, ends)) = ended_status sink _ 4 result ends (inr (inr (inr (inl refl))))
-IsStatus-answers named source sink result (inr (TooLarge, meets, ends)) = ended_status sink _ 7 result ends (inr (inr (inr (inr (inr (inr (inl refl)))))))
+IsStatus-answers named source sink result (inr (TooLarge, meets, ends)) = ended_status sink _ 7 result ends (inr (inr (inr (inr (inr (inr refl))))))
 IsStatus-answers named source sink result (inr (Whole command input ending, meets, ends)) = ended_status sink _ (ending_status ending) result ends (input_is_status command input ending meets.2)
 
 -- ---- what was read is carried out
+
+printed-rendered : (script : Script) → printed (plan_of script) ≡ rendered script
+unfolding printed
+printed-rendered script = refl
+
+pub Concludes-sized : (sink : SinkCourse) (script : Script) (result : ℕ) → shape_words script.shape ≤ MOST_WORDS → Concludes sink (rendered script) 0 result
+    → Concludes sink (ending_text (sized_ending (plan_of script))) (ending_status (sized_ending (plan_of script))) result
+Concludes-sized sink script result within concludes = rw (below (shape_words script.shape) within, printed-rendered script) concludes
 
 pub audit_tells : (sink : SinkCourse) (input : List ℕ) (lines : List OutLine) (result : ℕ) → output_of input ≡ Ok lines
     → (Starves sink result ⊎ ((verdict : Verdict) × IsVerdict lines verdict × Ends sink (verdict_text verdict) 0 result))

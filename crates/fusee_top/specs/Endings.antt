@@ -6,7 +6,10 @@ use Rattle.lease_core.specs.Text as lease
 use Rattle.lease_core.specs.declared.lease_lines.LeaseLine.{LeaseLine}
 use Rattle.lease_core.specs.declared.reading.LeaseKind.{LeaseKind}
 use Rattle.lease_core.specs.declared.reading.LeaseKind.TheVariants as lease_kind
+use Rattle.script_meaning.specs.Scripts.{run_on, sizes_of}
+use Rattle.script_run.specs.declared.running.TheConstants.{MOST_WORDS}
 use Rattle.script_text.specs.OutputRead.{Bad, output_of}
+use Rattle.script_text.specs.OutputText.{text_of}
 use Rattle.script_text.specs.ScriptForm.{Fault, Plan, reading_of}
 use Rattle.script_text.specs.declared.faults.BadKind.{BadKind}
 use Rattle.script_text.specs.declared.faults.BadKind.TheVariants as kind
@@ -15,10 +18,7 @@ use Rattle.text_lines.specs.Lines.{lines_of}
 use Rattle.trace_audit.specs.Verdicts.{IsVerdict}
 use Rattle.trace_audit.specs.declared.verdicts.Verdict.{Verdict}
 use Rattle.fusee_top.specs.Notices.{notice_status, notice_text}
-use Rattle.fusee_top.specs.Run.{run_text}
-use Rattle.fusee_top.specs.Small.{SmallPlan, small_plan_of}
 use Rattle.fusee_top.specs.Sizes.{shape_words}
-use Rattle.fusee_top.specs.declared.scripts.TheConstants.{MOST_WORDS}
 use Rattle.fusee_top.specs.Verdict.{verdict_text}
 use Rattle.fusee_top.specs.declared.commands.Command.{Command}
 use Rattle.fusee_top.specs.declared.commands.Command.TheVariants as command
@@ -40,12 +40,12 @@ ending_status (Ran text) = 0
 
 -- ---- script
 
-abbrev pub small_ending : Result SmallPlan ℕ → Ending
-small_ending (Ok small) = Ran (run_text small)
-small_ending (Err line) = Told (notice.NotBuilt line)
+-- the text of the run of a script
+unfoldable pub printed : Plan → List ℕ
+printed plan = text_of (run_on (sizes_of plan.shape) plan.lines).lines
 
 abbrev pub sized_ending : Plan → Ending
-sized_ending plan = if nat_lt MOST_WORDS (shape_words plan.shape) then Told (notice.TooLarge (shape_words plan.shape)) else small_ending (small_plan_of plan)
+sized_ending plan = if nat_lt MOST_WORDS (shape_words plan.shape) then Told (notice.TooLarge (shape_words plan.shape)) else Ran (printed plan)
 
 abbrev pub read_ending : Result Plan Fault → Ending
 read_ending (Ok plan) = sized_ending plan

@@ -5,10 +5,6 @@ pub mod Notices
 pub mod Offline
 pub mod Options
 pub mod Parsed
-pub mod Records
-pub mod Run
 pub mod Sizes
-pub mod Small
 pub mod Verdict
 pub mod Words
-pub mod Written

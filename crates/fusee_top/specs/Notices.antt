@@ -5,8 +5,8 @@ use Rattle.script_text.specs.declared.faults.BadKind.{BadKind}
 use Rattle.script_text.specs.declared.faults.BadKind.TheVariants as kind
 use Rattle.fusee_top.specs.declared.notices.Notice.{Notice}
 use Rattle.fusee_top.specs.declared.notices.Notice.TheVariants as notice
-use Rattle.fusee_top.specs.declared.writing.Unwritten.{Unwritten}
-use Rattle.fusee_top.specs.declared.writing.Unwritten.TheVariants.{Fault, NoMemory}
+use Rattle.script_run.specs.declared.writing.Unwritten.{Unwritten}
+use Rattle.script_run.specs.declared.writing.Unwritten.TheVariants.{Fault, NoMemory}
 
 abbrev pub kind_name : BadKind → List ℕ
 kind_name kind.Byte = codes "Byte"
@@ -27,14 +27,12 @@ notice_text notice.Usage = codes "usage\n"
 notice_text notice.ReadFault = codes "read fault\n"
 notice_text (notice.TooLarge count) = codes "too large " ++ decimal count ++ codes "\n"
 notice_text (notice.BadLine number kind) = bad_line_text number kind
-notice_text (notice.NotBuilt line) = codes "not built " ++ decimal line ++ codes "\n"
 
 abbrev pub notice_status : Notice → ℕ
 notice_status notice.Usage = 2
 notice_status notice.ReadFault = 4
 notice_status (notice.TooLarge count) = 7
 notice_status (notice.BadLine number kind) = 3
-notice_status (notice.NotBuilt line) = 8
 
 -- the status where the writing of a text stopped, and else the text's own
 abbrev pub ended : {T : Type 0} → Result T Unwritten → ℕ → ℕ

@@ -1,5 +1,5 @@
 -- What the top call answers: when each status comes, and what the sink then holds.
-use Rattle.std.specs.Prelude.{◌≡◌, ◌≢◌, ℕ, ◌<◌, ◌≤◌, ◌⊎◌, nat_lt, if◌then◌else◌, List, ◌++◌, length, codes, Option, Some, None, Ok, Err, slice_get}
+use Rattle.std.specs.Prelude.{◌≡◌, ◌≢◌, ℕ, ◌<◌, ◌≤◌, ◌⊎◌, nat_lt, if◌then◌else◌, List, ◌++◌, length, codes, Option, Some, None, Ok, slice_get}
 use Rattle.std.specs.Fmt.{decimal}
 use Rattle.lease_core.specs.Grammar.{events_from}
 use Rattle.lease_core.specs.Run.{answers}
@@ -8,26 +8,21 @@ use Rattle.lease_core.specs.Text as lease
 use Rattle.lease_core.specs.declared.answering.LeaseAnswer.{LeaseAnswer}
 use Rattle.lease_core.specs.declared.answering.LeaseAnswer.TheVariants as told
 use Rattle.lease_core.specs.declared.lease_lines.LeaseLine.{LeaseLine}
-use Rattle.map_model.specs.Linear.{IsLinear}
+use Rattle.outside.specs.Appended.{AppendsFront}
+use Rattle.script_run.specs.declared.running.TheConstants.{MOST_WORDS}
 use Rattle.script_text.specs.Meaning.{Means}
 use Rattle.script_text.specs.OutputRead.{output_of}
-use Rattle.script_text.specs.OutputText.{text_of}
 use Rattle.script_text.specs.ScriptForm.{Plan}
 use Rattle.script_text.specs.declared.faults.BadKind.{BadKind}
 use Rattle.script_text.specs.declared.out_lines.OutLine.{OutLine}
 use Rattle.text_lines.specs.Lines as text
-use Rattle.trace_audit.specs.Told.{history_of, trace_of}
 use Rattle.trace_audit.specs.Verdicts.{IsVerdict}
 use Rattle.trace_audit.specs.declared.verdicts.Verdict.{Verdict}
-use Rattle.trace_audit.specs.declared.verdicts.Verdict.TheVariants.{Linear}
 use Rattle.fusee_top.specs.Course.{Ends, SinkCourse, SourceCourse, ReadFailed, Starves, Wrote}
-use Rattle.fusee_top.specs.Endings.{Comes, Ending, Told, ending_status, ending_text, status_of}
+use Rattle.fusee_top.specs.Endings.{Comes, Ending, Told, ending_status, ending_text, printed, status_of}
 use Rattle.fusee_top.specs.Input.{GaveMore, WasAll}
 use Rattle.fusee_top.specs.Notices.{bad_line_text}
-use Rattle.fusee_top.specs.Run.{lines_of}
 use Rattle.fusee_top.specs.Sizes.{shape_words}
-use Rattle.fusee_top.specs.declared.scripts.TheConstants.{MOST_WORDS}
-use Rattle.fusee_top.specs.Small.{SmallPlan, small_plan_of}
 use Rattle.fusee_top.specs.Verdict.{verdict_text}
 use Rattle.fusee_top.specs.declared.commands.Command.{Command}
 use Rattle.fusee_top.specs.declared.commands.Command.TheVariants as command
@@ -64,20 +59,14 @@ Answers named source sink result =
 
 -- ---- status 0
 
--- a script was read whole and run, and its lines were written: the history in them is a linearization of the trace in them, and an audit of them says so
+-- a script was read whole and run, and the text of its run was written
 pub record RanScript (source : SourceCourse) (sink : SinkCourse) : Type 0 where
   pub input : List ℕ
   pub plan : Plan
-  pub small : SmallPlan
-  pub lines : List OutLine
   pub read : WasAll source.left source.left_now input
   pub script : Means input plan
   pub within : shape_words plan.shape ≤ MOST_WORDS
-  pub form : small_plan_of plan ≡ Ok small
-  pub run : lines ≡ lines_of small
-  pub wrote : Wrote sink (text_of lines)
-  pub linear : IsLinear (trace_of lines) (history_of lines)
-  pub verdict : IsVerdict lines (Linear (length (history_of lines)))
+  pub wrote : Wrote sink (printed plan)
 
 -- an output was read whole, and the verdict on it was written
 pub record RanAudit (source : SourceCourse) (sink : SinkCourse) : Type 0 where
@@ -133,6 +122,12 @@ pub record HasTooManyWords (named : Option Command) (source : SourceCourse) (sin
   pub over : MOST_WORDS < shape_words plan.shape
   pub wrote : Wrote sink (codes "too large " ++ decimal (shape_words plan.shape) ++ codes "\n")
 
+-- the sink grew by nothing, or by a front of the text of what was met
+abbrev pub LeavesFront : Option Command → SourceCourse → SinkCourse → Type 0
+LeavesFront named source sink =
+    (sink.held_now ≡ sink.held)
+    ⊎ ((met : Outcome) × Meets named source met × AppendsFront sink.held sink.held_now (ending_text (outcome_ending met)))
+
 -- a command reads, and more bytes were given than an input may have
 pub record HasTooManyBytes (named : Option Command) (source : SourceCourse) (sink : SinkCourse) : Type 0 where
   pub some : named ≢ None
@@ -142,27 +137,15 @@ pub record HasTooManyBytes (named : Option Command) (source : SourceCourse) (sin
 abbrev pub IsTooLarge : Option Command → SourceCourse → SinkCourse → Type 0
 IsTooLarge named source sink = HasTooManyBytes named source sink ⊎ HasTooManyWords named source sink
 
--- a script was read whole, and leaves the form that is run: its first line that does was told
-pub record IsNotBuilt (named : Option Command) (source : SourceCourse) (sink : SinkCourse) : Type 0 where
-  pub input : List ℕ
-  pub plan : Plan
-  pub line : ℕ
-  pub names : named ≡ Some command.Script
-  pub read : WasAll source.left source.left_now input
-  pub script : Means input plan
-  pub within : shape_words plan.shape ≤ MOST_WORDS
-  pub leaves : small_plan_of plan ≡ Err line
-  pub wrote : Wrote sink (codes "not built " ++ decimal line ++ codes "\n")
-
 -- the status of any input
 abbrev pub input_status : Command → List ℕ → ℕ
 input_status command input = if nat_lt LIMIT (length input) then 7 else status_of command input
 
--- the input is within size and in the grammar of the command, and a script asks for no more words than there may be and has the form that is run
+-- the input is within size and in the grammar of the command, and a script asks for no more words than there may be
 abbrev pub IsAccepted : Command → List ℕ → Type 0
-IsAccepted command.Script input = (length input ≤ LIMIT) × ((plan : Plan) × (small : SmallPlan) × Means input plan × (shape_words plan.shape ≤ MOST_WORDS) × (small_plan_of plan ≡ Ok small))
+IsAccepted command.Script input = (length input ≤ LIMIT) × ((plan : Plan) × Means input plan × (shape_words plan.shape ≤ MOST_WORDS))
 IsAccepted command.Audit input = (length input ≤ LIMIT) × ((lines : List OutLine) × (output_of input ≡ Ok lines))
 IsAccepted (command.Leases terms) input = (length input ≤ LIMIT) × ((lines : List LeaseLine) × (events_from 1 (text.lines_of input) ≡ Ok lines))
 
 abbrev pub IsStatus : ℕ → Type 0
-IsStatus result = (result ≡ 0) ⊎ ((result ≡ 2) ⊎ ((result ≡ 3) ⊎ ((result ≡ 4) ⊎ ((result ≡ 5) ⊎ ((result ≡ 6) ⊎ ((result ≡ 7) ⊎ (result ≡ 8)))))))
+IsStatus result = (result ≡ 0) ⊎ ((result ≡ 2) ⊎ ((result ≡ 3) ⊎ ((result ≡ 4) ⊎ ((result ≡ 5) ⊎ ((result ≡ 6) ⊎ (result ≡ 7))))))

@@ -8,8 +8,8 @@ ghost use Rattle.fusee_top.specs.Endings.{Ending, IsOutputEnding, ending_status,
 ghost use Rattle.fusee_top.specs.Verdict.{call_name, fault_name, verdict_text};
 
 use crate::notices::{DONE, NO_MEMORY, Notice, ended, push_number, write_notice};
-use crate::writing::write_all;
 use outside::Sink;
+use script_run::write_all;
 use script_text::{OutLine, ScriptFault, parse_output};
 use std::alloc::{AllocError, Global};
 use trace_audit::{Fault, Verdict, audit};

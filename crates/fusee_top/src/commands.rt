@@ -9,7 +9,7 @@ ghost use Rattle.fusee_top.specs.declared.commands.Command.{Command};
 use crate::audits::audit_text;
 use crate::leases::run_leases;
 use crate::options::{Misread, option_values};
-use crate::running::run_script;
+use crate::scripts::run_script;
 use lease_core::{Terms, terms_of};
 use outside::Sink;
 use std::alloc::Global;

@@ -4,14 +4,14 @@ ghost use Rattle.outside.specs.Faults.{IsSteady};
 ghost use Rattle.lease_core.specs.Text as lease;
 ghost use Rattle.fusee_top.specs.Course.{Concludes, sink_course};
 ghost use Rattle.fusee_top.specs.Endings.{ending_status, ending_text, kind_of_lease, leases_ending};
-ghost use Rattle.fusee_top.specs.Written.{Writes};
+ghost use Rattle.script_run.specs.Written.{Writes};
 
 use crate::notices::{DONE, NO_MEMORY, Notice, ended, write_notice};
-use crate::writing::{Unwritten, write_all};
 use lease_core::{
     LeaseAnswer, LeaseFault, LeaseKind, LeaseLine, LeaseRun, Terms, parse_leases, push_answer,
 };
 use outside::Sink;
+use script_run::{Unwritten, write_all};
 use script_text::BadKind;
 use std::alloc::Global;
 

@@ -3,17 +3,18 @@
 #![tactic(auto)]
 
 mod audits;
-mod client;
 mod commands;
 mod leases;
 mod notices;
 mod options;
 mod reading;
-mod running;
+#[cfg(test)]
+mod script_rows;
+#[cfg(test)]
+mod script_tests;
 mod scripts;
 #[cfg(test)]
 mod tests;
 mod top_call;
-mod writing;
 
 pub use top_call::offline;

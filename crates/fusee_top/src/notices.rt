@@ -4,8 +4,8 @@ ghost use Rattle.outside.specs.Faults.{IsSteady};
 ghost use Rattle.fusee_top.specs.Course.{Concludes, sink_course};
 ghost use Rattle.fusee_top.specs.Notices.{ended, kind_name, notice_status, notice_text};
 
-use crate::writing::{Unwritten, write_all};
 use outside::Sink;
+use script_run::{Unwritten, write_all};
 use script_text::BadKind;
 use std::alloc::{AllocError, Global};
 
@@ -23,8 +23,6 @@ pub const WRITE_FAULT: u8 = 5;
 pub const NO_MEMORY: u8 = 6;
 /// The input or its shape is too large.
 pub const TOO_LARGE: u8 = 7;
-/// A line of the script is not of the form that is run so far.
-pub const NOT_BUILT: u8 = 8;
 
 /// What is written in place of a run: one line.
 #[derive(Clone, Copy, Debug, PartialEq, Eq)]
@@ -35,8 +33,6 @@ pub enum Notice {
     TooLarge(u64),
     /// The first bad line, and what is wrong with it.
     BadLine { number: u32, kind: BadKind },
-    /// The first line, of those that are not skipped, that leaves the form that is run so far.
-    NotBuilt(u32),
 }
 
 /// Writes the notice, and answers its status.
@@ -67,10 +63,6 @@ fn push_notice(into: &mut Vec<u8>, notice: Notice) -> Result<(), AllocError>
             push_number(into, u64::from(number))?;
             into.push(b' ')?;
             push_kind(into, kind)?;
-        }
-        Notice::NotBuilt(line) => {
-            into.extend_from_slice(b"not built ")?;
-            push_number(into, u64::from(line))?;
         }
     }
     into.push(b'\n')?;
@@ -108,7 +100,6 @@ fn status_of(notice: Notice) -> u8
         Notice::ReadFault => READ_FAULT,
         Notice::TooLarge(_) => TOO_LARGE,
         Notice::BadLine { .. } => BAD_LINE,
-        Notice::NotBuilt(_) => NOT_BUILT,
     }
 }
 

@@ -2,7 +2,7 @@ ghost use Rattle.std.specs.Prelude.{◌≡◌, ℕ, ◌⊎◌, ◌≤◌, List, 
 ghost use Rattle.std.specs.String.{string_bytes};
 ghost use Rattle.outside.specs.Faults.{IsSteady, Rose};
 ghost use Rattle.fusee_top.specs.Course.{EndsIn, ReadFailed, WriteFailed, Wrote, sink_course, source_course};
-ghost use Rattle.fusee_top.specs.Offline.{Answers, HasBadLine, HasReadFault, HasUsage, IsAccepted, IsNotBuilt, IsStatus, IsTooLarge, RanAudit, RanLeases, RanScript, input_status};
+ghost use Rattle.fusee_top.specs.Offline.{Answers, HasBadLine, HasReadFault, HasUsage, IsAccepted, IsStatus, IsTooLarge, LeavesFront, RanAudit, RanLeases, RanScript, input_status};
 ghost use Rattle.fusee_top.specs.Words.{command_of};
 ghost use Rattle.fusee_top.specs.declared.commands.Command.{Command};
 ghost use Rattle.fusee_top.specs.declared.commands.Command.TheVariants as command;
@@ -17,11 +17,12 @@ use std::alloc::Global;
 
 /// Carries out the command that the words name, over a source and a sink, and answers the status.
 ///
-/// `script` reads a script to its end, runs it, and writes its trace and its history. `audit` reads
-/// such an output to its end, and tells whether its last history is a history of one map. `leases`,
-/// with the options `--length` and `--error`, reads lease lines to their end, and answers each. A
-/// status whose text could not be written gives way to 5 where a write failed, and to 6 where memory
-/// was wanting; of that text the sink then holds a front.
+/// `script` reads a script to its end, runs it, and writes what it prints. `audit` reads such an
+/// output to its end, and tells whether its last history is a history of one map. `leases`, with the
+/// options `--length` and `--error`, reads lease lines to their end, and answers each. Any other
+/// word, `run`, `export`, `import` and `ring` among them, is no command here. A status whose text
+/// could not be written gives way to 5 where a write failed, and to 6 where memory was wanting; of
+/// that text the sink then holds a front.
 pub fn offline<S: Source, K: Sink>(
     alloc: Global,
     words: &[String],
@@ -54,17 +55,16 @@ pub fn offline<S: Source, K: Sink>(
         (sink_course K.held K.faults sink.old sink.new) }
     // 5: only where a write failed.
     ensures write_fault { result ≡ 5 → WriteFailed (sink_course K.held K.faults sink.old sink.new) }
+    // 5 and 6: what the sink holds more than before is a front of the text of what was met.
+    ensures front { (result ≡ 5) ⊎ (result ≡ 6) → LeavesFront (command_of (map string_bytes words.now))
+        (source_course S.left S.faults source.old source.new)
+        (sink_course K.held K.faults sink.old sink.new) }
     // 7: exactly where more bytes were given than an input may have, and no read failed before, or
     // the script asks for more words than there may be.
     ensures too_large { result ≡ 7 → IsTooLarge (command_of (map string_bytes words.now))
         (source_course S.left S.faults source.old source.new)
         (sink_course K.held K.faults sink.old sink.new) }
-    // 8: exactly where the script leaves the form that is run; the text names the first line that
-    // does.
-    ensures not_built { result ≡ 8 → IsNotBuilt (command_of (map string_bytes words.now))
-        (source_course S.left S.faults source.old source.new)
-        (sink_course K.held K.faults sink.old sink.new) }
-    // Where no read failed, the input alone decides among 0, 3, 7 and 8.
+    // Where no read failed, the input alone decides among 0, 3 and 7.
     ensures decided { (command : Command) (input : List ℕ)
         → command_of (map string_bytes words.now) ≡ Some command
         → S.left source.old ≡ Some input → ¬ Rose (S.faults source.old) (S.faults source.new)

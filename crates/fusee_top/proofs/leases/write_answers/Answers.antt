@@ -6,7 +6,7 @@ use Rattle.lease_core.specs.Text.{answer_text, text_of}
 use Rattle.lease_core.specs.declared.answering.LeaseAnswer.TheVariants as told
 use Rattle.outside.proofs.FaultsLemmas.{steady_then}
 use Rattle.fusee_top.proofs.LeaseLemmas.{Stops-at, appends-next, run_after-next, run_text-end}
-use Rattle.fusee_top.proofs.WrittenLemmas.{writes_then}
+use Rattle.script_run.proofs.WrittenLemmas.{writes_then}
 use Rattle.fusee_top.proofs.leases.write_answers.Goals as goal
 
 pub returns-in-Err-clause-written : goal.returns-in-Err-clause-written

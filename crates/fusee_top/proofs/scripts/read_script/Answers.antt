@@ -1,3 +1,4 @@
+use Rattle.std.proofs.Common.{arith}
 use Rattle.std.proofs.lemmas.Result.{IfOk-weaker}
 use Rattle.fusee_top.proofs.ReadLemmas.{IsScript-parsed}
 use Rattle.fusee_top.proofs.scripts.read_script.Goals as goal
@@ -7,3 +8,6 @@ returns-clause-read c = IsScript-parsed c.parse.result c.args.text.now c.parse.e
 
 pub returns-clause-within : goal.returns-clause-within
 returns-clause-within c = IfOk-weaker c.parse.result _ _ (λ script sound. sound.within) c.parse.ensures.sound
+
+pub returns-clause-few : goal.returns-clause-few
+returns-clause-few c = IfOk-weaker c.parse.result _ _ (λ script sound. let few = sound.few in omega arith) c.parse.ensures.sound

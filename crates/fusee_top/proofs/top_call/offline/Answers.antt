@@ -1,6 +1,6 @@
 use Rattle.std.proofs.Common.{map}
 use Rattle.std.specs.String.{string_bytes}
-use Rattle.fusee_top.proofs.OfflineLemmas.{HasBadLine-answers, HasReadFault-answers, HasUsage-answers, IsNotBuilt-answers, IsStatus-answers, IsTooLarge-answers, RanAudit-answers, RanLeases-answers, RanScript-answers, complete_by, decided_by, only_usage_of, write_fault_of}
+use Rattle.fusee_top.proofs.OfflineLemmas.{HasBadLine-answers, HasReadFault-answers, HasUsage-answers, IsStatus-answers, IsTooLarge-answers, LeavesFront-answers, RanAudit-answers, RanLeases-answers, RanScript-answers, complete_by, decided_by, only_usage_of, write_fault_of}
 use Rattle.fusee_top.proofs.CommandLemmas.{AreTerms-named}
 use Rattle.fusee_top.proofs.top_call.offline.Goals as goal
 
@@ -28,11 +28,11 @@ returns-clause-read_fault g c = HasReadFault-answers _ _ _ _ c.conduct.ensures.a
 pub returns-clause-write_fault : goal.returns-clause-write_fault
 returns-clause-write_fault g c = write_fault_of _ _ _ _ c.conduct.ensures.answer
 
+pub returns-clause-front : goal.returns-clause-front
+returns-clause-front g c = λ stopped. LeavesFront-answers _ _ _ _ c.conduct.ensures.answer
+
 pub returns-clause-too_large : goal.returns-clause-too_large
 returns-clause-too_large g c = IsTooLarge-answers _ _ _ _ c.conduct.ensures.answer
-
-pub returns-clause-not_built : goal.returns-clause-not_built
-returns-clause-not_built g c = IsNotBuilt-answers _ _ _ _ c.conduct.ensures.answer
 
 pub returns-clause-decided : goal.returns-clause-decided
 returns-clause-decided g c = λ command input. decided_by _ _ _ _ command input c.conduct.ensures.answer

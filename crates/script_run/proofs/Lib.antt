@@ -1,0 +1,8 @@
+pub mod ListLemmas
+pub mod WrittenLemmas
+mod LeftLemmas
+mod TurnLemmas
+mod TakesLemmas
+mod DumpLemmas
+mod LineLemmas
+mod ScriptLemmas

@@ -1,0 +1,233 @@
+// The verbs of a line.
+
+ghost use Rattle.std.specs.Prelude.{◌≡◌, ◌+◌, ◌<◌, ◌≤◌, ◌^◌, ◌++◌, IfErr, IfOk, None, OnOk, is_some, map};
+ghost use Rattle.machine_world.specs.Events.{comes_to, happens};
+ghost use Rattle.machine_world.specs.Refusals.{refusal};
+ghost use Rattle.outside.specs.Faults.{IsSteady};
+ghost use Rattle.script_meaning.specs.Lines.{taker_of, takes, takes_up_to, told_line, verb_lines};
+ghost use Rattle.script_run.specs.Turns.{LastsFor, event_of, or_nothing, told_by, verb_told};
+ghost use Rattle.script_run.specs.Written.{Writes};
+ghost use Rattle.verb_history.specs.Moments.{moment_of};
+ghost use Rattle.script_text.specs.OutputText.{line_text, text_of};
+
+use crate::line_writing::{write_refusal, write_took};
+use crate::shown::{shown_verb, subject_of, told_by};
+use crate::writing::{Unwritten, write_line};
+use outside::Sink;
+use script_text::OutLine;
+use std::alloc::Global;
+use verb_history::Moment;
+use world_core::{Event, Happened, Refused, Seen, World};
+
+/// Who takes the verbs of a line.
+#[derive(Clone, Copy, Debug, PartialEq, Eq)]
+pub(crate) enum Taker {
+    /// The client of this number.
+    Client(u32),
+    /// The client, whose verb is carried out on a lost node.
+    Late(u32),
+    Master,
+}
+
+impl Taker {
+    fn event(self) -> Event
+        ensures { result ≡ event_of self }
+    {
+        match self {
+            Taker::Client(client) => Event::Step { client },
+            Taker::Late(client) => Event::Late { client },
+            Taker::Master => Event::Work,
+        }
+    }
+
+    fn actor(self) -> Option<u32>
+        ensures { result ≡ taker_of (event_of self) }
+    {
+        match self {
+            Taker::Client(client) => Some(client),
+            Taker::Late(client) => Some(client),
+            Taker::Master => None,
+        }
+    }
+}
+
+/// Takes verbs until the line comes to its end by one, and at most so many; or writes why the first
+/// is refused.
+pub(crate) fn take_up_to<K: Sink>(
+    alloc: Global,
+    most: u64,
+    shows: bool,
+    taker: Taker,
+    world: &mut World,
+    sink: &mut K,
+) -> Result<(), Unwritten>
+    requires room { world.old.events + most ≤ 2 ^ 63 }
+    requires lasts { LastsFor taker most }
+    ensures written { Writes K.held K.faults sink.old sink.new result
+        (text_of (takes_up_to most shows (event_of taker) world.old).lines) }
+    ensures world { OnOk result (world.new ≡ (takes_up_to most shows (event_of taker) world.old).world) }
+    ensures few { OnOk result (world.new.events ≤ world.old.events + most) }
+    ensures later { K.faults sink.old ≤ K.faults sink.new }
+    ensures steady { IsSteady K.cannot_fail K.faults sink.old sink.new }
+{
+    match world.refusal(&taker.event()) {
+        Some(reason) => write_refusal(alloc, reason, sink),
+        None => take(alloc, most, shows, taker, world, sink),
+    }
+}
+
+// Takes verbs where the first is not refused. None of the later ones is, since the line would have come
+// to its end.
+fn take<K: Sink>(
+    alloc: Global,
+    most: u64,
+    shows: bool,
+    taker: Taker,
+    world: &mut World,
+    sink: &mut K,
+) -> Result<(), Unwritten>
+    requires room { world.old.events + most ≤ 2 ^ 63 }
+    requires lasts { LastsFor taker most }
+    requires lawful { refusal world.old (event_of taker) ≡ None }
+    ensures written { Writes K.held K.faults sink.old sink.new result
+        (text_of (takes shows (event_of taker) 0 most world.old).lines) }
+    ensures world { OnOk result (world.new ≡ (takes shows (event_of taker) 0 most world.old).world) }
+    ensures few { OnOk result (world.new.events ≤ world.old.events + most) }
+    ensures later { K.faults sink.old ≤ K.faults sink.new }
+    ensures steady { IsSteady K.cannot_fail K.faults sink.old sink.new }
+{
+    for taken in 0..most {
+        match take_one(alloc, shows, taker, world, sink) {
+            Ok(true) => return Ok(()),
+            Ok(false) => {}
+            Err(why) => return Err(why),
+        }
+    }
+    write_took(alloc, taker.actor(), most, sink)
+}
+
+// Takes one verb, and writes it where verbs are shown. Where the line comes to its end by it, what came
+// of it is written, and the answer is true.
+fn take_one<K: Sink>(
+    alloc: Global,
+    shows: bool,
+    taker: Taker,
+    world: &mut World,
+    sink: &mut K,
+) -> Result<bool, Unwritten>
+    requires room { world.old.events < 2 ^ 63 }
+    requires lawful { refusal world.old (event_of taker) ≡ None }
+    ensures written { Writes K.held K.faults sink.old sink.new result
+        (text_of (verb_told shows world.old (event_of taker))) }
+    ensures ends { IfOk result (λ ends. ends ≡ is_some (told_line world.old (comes_to world.old (event_of taker)))) }
+    ensures world { OnOk result (world.new ≡ happens world.old (event_of taker)) }
+    ensures later { K.faults sink.old ≤ K.faults sink.new }
+    ensures steady { IsSteady K.cannot_fail K.faults sink.old sink.new }
+{
+    let subject = subject_of(world.task());
+    match advance(taker.event(), world) {
+        Ok(happened) => write_turn(alloc, shows, subject, happened, world.moments(), sink),
+        Err(why) => Err(why),
+    }
+}
+
+/// Carries out an event that is not refused.
+pub(crate) fn advance(event: Event, world: &mut World) -> Result<Happened, Unwritten>
+    requires room { world.old.events < 2 ^ 63 }
+    requires lawful { refusal world.old event ≡ None }
+    ensures happened { IfOk result (λ happened. happened ≡ comes_to world.old event) }
+    ensures world { OnOk result (world.new ≡ happens world.old event) }
+    ensures memory { IfErr result (λ why. why ≡ Unwritten.NoMemory) }
+{
+    match world.advance(event) {
+        Ok(happened) => Ok(happened),
+        Err(Refused::NoMemory) => Err(Unwritten::NoMemory),
+        Err(_) => unreachable!(),
+    }
+}
+
+// Writes what has happened: the verb, where verbs are shown, and what came of it, if it is told. The
+// answer is whether it is.
+fn write_turn<K: Sink>(
+    alloc: Global,
+    shows: bool,
+    subject: u32,
+    happened: Happened,
+    moments: &[Moment],
+    sink: &mut K,
+) -> Result<bool, Unwritten>
+    ensures written { Writes K.held K.faults sink.old sink.new result
+        (text_of (verb_lines shows happened ++ or_nothing (told_by subject happened (map moment_of moments.now)))) }
+    ensures told { IfOk result (λ is_told. is_told ≡ is_some (told_by subject happened (map moment_of moments.now))) }
+    ensures later { K.faults sink.old ≤ K.faults sink.new }
+    ensures steady { IsSteady K.cannot_fail K.faults sink.old sink.new }
+{
+    match write_verb(alloc, shows, happened, sink) {
+        Ok(()) => write_told_by(alloc, subject, happened, moments, sink),
+        Err(why) => Err(why),
+    }
+}
+
+fn write_told_by<K: Sink>(
+    alloc: Global,
+    subject: u32,
+    happened: Happened,
+    moments: &[Moment],
+    sink: &mut K,
+) -> Result<bool, Unwritten>
+    ensures written { Writes K.held K.faults sink.old sink.new result
+        (text_of (or_nothing (told_by subject happened (map moment_of moments.now)))) }
+    ensures told { IfOk result (λ is_told. is_told ≡ is_some (told_by subject happened (map moment_of moments.now))) }
+    ensures later { K.faults sink.old ≤ K.faults sink.new }
+    ensures steady { IsSteady K.cannot_fail K.faults sink.old sink.new }
+{
+    let told = told_by(alloc, subject, happened, moments)?;
+    write_told(alloc, told, sink)
+}
+
+fn write_verb<K: Sink>(
+    alloc: Global,
+    shows: bool,
+    happened: Happened,
+    sink: &mut K,
+) -> Result<(), Unwritten>
+    ensures written { Writes K.held K.faults sink.old sink.new result (text_of (verb_lines shows happened)) }
+    ensures later { K.faults sink.old ≤ K.faults sink.new }
+    ensures steady { IsSteady K.cannot_fail K.faults sink.old sink.new }
+{
+    if !shows {
+        return Ok(());
+    }
+    match happened {
+        Happened::Stepped { seen, .. } => write_line(alloc, &shown_verb(seen), sink),
+        Happened::Recovering { seen, .. } => write_line(alloc, &shown_verb(seen), sink),
+        Happened::Settling { seen, .. } => write_line(alloc, &shown_verb(seen), sink),
+        Happened::Joining { seen, .. } => write_line(alloc, &shown_verb(seen), sink),
+        Happened::Registered(_) => Ok(()),
+        Happened::Invoked(_) => Ok(()),
+        Happened::Stopped => Ok(()),
+        Happened::Lost => Ok(()),
+        Happened::Filled => Ok(()),
+        Happened::Chosen => Ok(()),
+    }
+}
+
+// Writes what is told, and answers whether something is.
+fn write_told<K: Sink>(
+    alloc: Global,
+    told: Option<OutLine>,
+    sink: &mut K,
+) -> Result<bool, Unwritten>
+    ensures written { Writes K.held K.faults sink.old sink.new result (text_of (or_nothing told)) }
+    ensures told { IfOk result (λ is_told. is_told ≡ is_some told) }
+    ensures later { K.faults sink.old ≤ K.faults sink.new }
+    ensures steady { IsSteady K.cannot_fail K.faults sink.old sink.new }
+{
+    match told {
+        Some(line) => {
+            write_line(alloc, &line, sink)?;
+            Ok(true)
+        }
+        None => Ok(false),
+    }
+}
