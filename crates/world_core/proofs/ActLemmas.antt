@@ -1,5 +1,5 @@
 -- A client's verb as an event of the world.
-use Rattle.std.proofs.Common.{◌≡◌, ℕ, zero, suc, ◌+◌, ◌-◌, ◌<◌, ◌≤◌, Bool, true, false, List, [], ◌∷◌, ◌++◌, length, Option, None, refl, sym, ap, subst, ◌∙◌, arith}
+use Rattle.std.proofs.Common.{◌≡◌, ℕ, zero, suc, ◌+◌, ◌-◌, ◌≤◌, Bool, true, false, List, ◌∷◌, ◌++◌, None, refl, sym, ap, subst, ◌∙◌, arith}
 use Rattle.std.specs.Prelude.{slice_index_or, slice_set}
 use Rattle.machine.specs.Client.{after, next, told}
 use Rattle.machine.specs.declared.client_call.Step.{Step}
@@ -51,10 +51,10 @@ acted late world clients client now changed trace ledger all least is_now is_cha
     let me : Client = client_in world.shape clients (client - 1) in
     let own : me ≡ client_at world client = own-client world clients client all least in
     let all_changed : nobody world.shape ∷ changed ≡ slice_set world.clients client (after me (answer_for late world.nodes me)) =
-        ap (λ list. nobody world.shape ∷ list) is_changed ∙ set-own (nobody world.shape) (after me (answer_for late world.nodes me)) clients client least
-        ∙ ap (λ list. slice_set list client (after me (answer_for late world.nodes me))) (sym all) in
+    ap (λ list. nobody world.shape ∷ list) is_changed ∙ set-own (nobody world.shape) (after me (answer_for late world.nodes me)) clients client least
+    ∙ ap (λ list. slice_set list client (after me (answer_for late world.nodes me))) (sym all) in
     let noted : ledger ≡ ledger_for world.shape world.nodes (nodes_for late world.nodes me) world.events me (answer_for late world.nodes me) world.ledger =
-        is_ledger ∙ ap (λ nodes. ledger_for world.shape world.nodes nodes world.events me (answer_for late world.nodes me) world.ledger) is_now in
+    is_ledger ∙ ap (λ nodes. ledger_for world.shape world.nodes nodes world.events me (answer_for late world.nodes me) world.ledger) is_now in
     let first : record {
       shape = world.shape;
       nodes = now;

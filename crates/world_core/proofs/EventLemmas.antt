@@ -1,5 +1,5 @@
 -- What the events make of the world, over what the world is made of.
-use Rattle.std.proofs.Common.{◌≡◌, ◌≢◌, ℕ, zero, suc, ◌+◌, ◌-◌, ◌<◌, ◌≤◌, ◌==◌, Bool, true, false, List, [], ◌∷◌, ◌++◌, drop, length, map, get_or, Option, Some, None, refl, sym, ap, ◌∙◌, arith, length-set}
+use Rattle.std.proofs.Common.{◌≡◌, ℕ, zero, suc, ◌+◌, ◌-◌, ◌<◌, ◌≤◌, ◌==◌, Bool, true, false, List, [], ◌∷◌, ◌++◌, drop, length, get_or, Option, Some, None, refl, sym, ap, ◌∙◌, arith, length-set}
 use Rattle.std.specs.Prelude.{replicate, slice_set}
 use Rattle.std.proofs.lemmas.Bool.Decides.{nat_tests}
 use Rattle.std.proofs.lemmas.List.{get_or-map, get_or-replicate, get_or-set_same, length-map, set-get_or, set-set}
@@ -69,10 +69,10 @@ pub invoked-world : (world : World) (clients : List Client) (client : ℕ) (call
 invoked-world world clients client call actor trace all least is_actor is_trace =
     let own = own-client world clients client all least in
     let changed : nobody world.shape ∷ slice_set clients (client - 1) actor ≡ slice_set world.clients client (invoked (client_at world client) (operation_of call) (key_of call) (value_of call)) =
-        set-own (nobody world.shape) actor clients client least ∙ ap (λ list. slice_set list client actor) (sym all)
-        ∙ ap (slice_set world.clients client) (is_actor ∙ ap (λ me. invoked me (operation_of call) (key_of call) (value_of call)) own) in
+    set-own (nobody world.shape) actor clients client least ∙ ap (λ list. slice_set list client actor) (sym all)
+    ∙ ap (slice_set world.clients client) (is_actor ∙ ap (λ me. invoked me (operation_of call) (key_of call) (value_of call)) own) in
     let told : trace ≡ world.trace ++ Invoked client ((client_at world client).number + 1) call ∷ [] =
-        is_trace ∙ ap (λ (me : Client). world.trace ++ Invoked client (me.number + 1) call ∷ []) own in
+    is_trace ∙ ap (λ (me : Client). world.trace ++ Invoked client (me.number + 1) call ∷ []) own in
     λ i. record {
       shape = world.shape;
       nodes = world.nodes;

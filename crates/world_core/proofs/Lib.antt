@@ -18,3 +18,4 @@ mod OpeningWorldLemmas
 mod WorkLemmas
 mod TaskLemmas
 mod SeenLemmas
+mod ApartLemmas

@@ -1,8 +1,7 @@
 -- The worlds that runs lead to: the first, and the one after each event.
-use Rattle.std.proofs.Common.{◌≡◌, ℕ, List, [], ◌∷◌, ◌++◌, refl, sym, ap, subst, ◌∙◌, Some, None}
+use Rattle.std.proofs.Common.{◌≡◌, ℕ, List, [], ◌∷◌, ◌++◌, refl, sym, ap, subst, ◌∙◌, None}
 use Rattle.machine_world.specs.Events.{happens, occurs}
 use Rattle.machine_world.specs.Refusals.{refusal}
-use Rattle.machine_world.specs.Runs.{run}
 use Rattle.machine_world.specs.Standing.{StandsWell}
 use Rattle.machine.specs.Stage.{Client}
 use Rattle.machine_world.specs.World.{Ledger, NoTask, World, first_ledger, first_world, nobody}

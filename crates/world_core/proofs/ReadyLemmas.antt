@@ -1,5 +1,5 @@
 -- What an event that is not refused may count on.
-use Rattle.std.proofs.Common.{◌≡◌, ℕ, ◌-◌, ◌<◌, ◌≤◌, Bool, true, false, List, ◌∷◌, length, None, refl, sym, ap, subst, ◌∙◌, arith}
+use Rattle.std.proofs.Common.{◌≡◌, ℕ, ◌-◌, ◌<◌, ◌≤◌, Bool, true, false, List, ◌∷◌, length, None, sym, ap, subst, arith}
 use Rattle.machine.specs.Client.{is_idle}
 use Rattle.machine.specs.Stage.{Client}
 use Rattle.machine_world.specs.Events.{verb_event}

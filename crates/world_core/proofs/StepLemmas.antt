@@ -1,5 +1,5 @@
 -- A client's verb: what the program notes of it is what the world's ledger has.
-use Rattle.std.proofs.Common.{◌≡◌, ℕ, ◌+◌, ◌<◌, ◌==◌, ◌-◌, ◌↔◌, Bool, true, false, ◌&&◌, List, [], ◌∷◌, length, get_or, Option, Some, None, refl, sym, ap, ◌∙◌}
+use Rattle.std.proofs.Common.{◌≡◌, ℕ, ◌<◌, ◌==◌, ◌-◌, ◌↔◌, Bool, true, false, ◌&&◌, List, [], ◌∷◌, length, get_or, Option, Some, None, refl, sym, ap, ◌∙◌}
 use Rattle.std.specs.Option.{option_map_or}
 use Rattle.std.specs.Prelude.{not, nat_lt, slice_get, slice_index_or}
 use Rattle.std.proofs.lemmas.List.{get_or_default}
@@ -15,10 +15,9 @@ use Rattle.machine_world.specs.Calls.{reply_of}
 use Rattle.machine_world.specs.Events.{moments_of}
 use Rattle.machine_world.specs.Ledger.{Caller, caller_of, final_of, is_word, reads_slot, winner_rank, with_final, with_read, with_return, with_taking}
 use Rattle.machine_world.specs.World.{Ledger, nobody}
-use Rattle.map_model.specs.Trace.{Moment, Returned}
+use Rattle.map_model.specs.Trace.{Returned}
 use Rattle.region_view.specs.Sizes.{Sizes}
 use Rattle.verb_words.specs.declared.verbs.Answer.{Answer}
-use Rattle.verb_history.specs.Moments.{moment_of}
 use Rattle.world_core.specs.Dues.{HasRankToReturn, IsReturning, decision_for, has_own_in_stock, moments_told, with_decided, with_returning, word_to_replace}
 use Rattle.world_core.specs.Steps.{client_in, ledger_for}
 use Rattle.world_core.specs.declared.dues.Decision.{Decision}
@@ -158,8 +157,8 @@ returning-has_rank sizes before now event client answer (Some returning) first t
     let none : noted.decision ≡ None = noted.is_decision ∙ ap (decision_for (caller_of client)) (noted.is_swap ∙ ap swap_of (ending-decides_nothing client.stage due.0)) in
     let same : noted.decided ≡ noted.read = noted.decides ∙ ap (λ decision. with_decided sizes noted.word now event decision noted.read) none in
     let all : taken.decided ≡ first.decided =
-        ap (λ l. l.decided) noted.takes ∙ decided-taking sizes noted.number noted.pointer noted.was noted.has noted.decided
-        ∙ ap (λ l. l.decided) (same ∙ noted.reads) ∙ decided-read event client answer first in
+    ap (λ l. l.decided) noted.takes ∙ decided-taking sizes noted.number noted.pointer noted.was noted.has noted.decided
+    ∙ ap (λ l. l.decided) (same ∙ noted.reads) ∙ decided-read event client answer first in
     has_rank_if-always taken returning.returned.beaten (λ slot version. has_rank-same taken first (slot, version) all (ranks slot version))
 
 -- a decision that was due is noted as the world notes a final swap

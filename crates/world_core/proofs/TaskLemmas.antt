@@ -1,5 +1,5 @@
 -- Whom the master recovers is registered.
-use Rattle.std.proofs.Common.{◌≡◌, ℕ, ◌+◌, ◌<◌, ◌≤◌, Bool, true, false, List, [], ◌∷◌, ◌++◌, length, Option, Some, None, refl, sym, ap, subst, ◌∙◌, arith, length-append, length-set}
+use Rattle.std.proofs.Common.{◌≡◌, ℕ, ◌<◌, ◌≤◌, Bool, true, false, List, [], ◌∷◌, length, Option, Some, None, refl, sym, subst, ◌∙◌, arith, length-append, length-set}
 use Rattle.std.proofs.lemmas.Bool.Decides.{nat_tests}
 use Rattle.machine.specs.Client.{after, invoked}
 use Rattle.machine.specs.declared.joining.Joined.{Joined}
@@ -24,12 +24,10 @@ use Rattle.machine_world.specs.Standing.{StandsWell, TaskStands}
 use Rattle.machine_world.specs.World.{Joins, NoTask, Recovers, Settles, TaskState, World, client_at, first_world, is_registered}
 use Rattle.machine_world.specs.declared.events.Event.{Event}
 use Rattle.machine_world.specs.declared.events.Event.TheVariants.{Register, Invoke, Step, Late, Stop, Lose, Fill, Choose, Work}
-use Rattle.machine_world.specs.declared.events.Task.{Task}
 use Rattle.machine_world.specs.declared.events.Task.TheVariants.{Settle, Recover, Join}
 use Rattle.machine_world.specs.declared.outcomes.Refused.{Refused}
 use Rattle.machine_world.specs.declared.outcomes.Refused.TheVariants as refused
 use Rattle.machine_world.proofs.StandingLemmas.{first_world-stands, happens-stands}
-use Rattle.verb_words.specs.declared.verbs.Answer.{Answer}
 use Rattle.verb_words.specs.Applied.{answer_to}
 use Rattle.region_view.specs.Sizes.{IsWithinLimits, Sizes}
 use Rattle.world_core.specs.Reached.{IsReached}

@@ -1,5 +1,5 @@
 -- The master's verbs as events of the world.
-use Rattle.std.proofs.Common.{◌≡◌, ℕ, ◌+◌, ◌-◌, ◌<◌, ◌≤◌, Bool, true, false, List, [], ◌∷◌, length, Option, Some, None, refl, sym, ap, subst, ◌∙◌, arith}
+use Rattle.std.proofs.Common.{◌≡◌, ℕ, ◌+◌, ◌-◌, ◌<◌, ◌≤◌, Bool, true, List, ◌∷◌, length, None, refl, sym, ap, subst, ◌∙◌, arith}
 use Rattle.std.specs.Prelude.{if◌then◌else◌, not, slice_index_or}
 use Rattle.machine.specs.declared.joining.Joined.{Joined}
 use Rattle.machine.specs.declared.joining.Joined.TheVariants as joined
@@ -113,9 +113,9 @@ settled-world world clients settling state told now task ledger all is_task is_s
     let answer = answer_to world.nodes (settlings.next settling) true in
     let same_task = is_over ∙ settled-over state told ∙ (λ i. settling_after (is_state i) (is_told i)) in
     let same_ledger : ledger ≡ (if opens (settlings.turn settling answer).told
-            then with_opening world (words_after world.nodes (settlings.next settling) true) world.ledger else world.ledger) =
-        is_ledger ∙ (λ i. if opens (is_told i) then sym (opening_of_world world now world.ledger world.shape world.nodes clients world.master.settled world.events refl refl all refl refl) i else world.ledger)
-        ∙ (λ i. if opens (settlings.turn settling answer).told then with_opening world (is_now i) world.ledger else world.ledger) in
+    then with_opening world (words_after world.nodes (settlings.next settling) true) world.ledger else world.ledger) =
+    is_ledger ∙ (λ i. if opens (is_told i) then sym (opening_of_world world now world.ledger world.shape world.nodes clients world.master.settled world.events refl refl all refl refl) i else world.ledger)
+    ∙ (λ i. if opens (settlings.turn settling answer).told then with_opening world (is_now i) world.ledger else world.ledger) in
     let first : record {
       shape = world.shape;
       nodes = now;

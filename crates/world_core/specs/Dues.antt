@@ -8,7 +8,7 @@ use Rattle.machine.specs.Client.{own_object}
 use Rattle.machine.specs.ObjectNames.{IsObject}
 use Rattle.machine.specs.Stage.{Client}
 use Rattle.machine_world.specs.Calls.{reply_of}
-use Rattle.machine_world.specs.Ledger.{Caller, caller_of, with_decision}
+use Rattle.machine_world.specs.Ledger.{Caller, with_decision}
 use Rattle.machine_world.specs.Readings.{deciding_word, is_in_stock}
 use Rattle.machine_world.specs.World.{Ledger}
 use Rattle.map_model.specs.Trace.{Moment, Returned}

@@ -5,3 +5,4 @@ pub mod Dues
 pub mod Steps
 pub mod Works
 pub mod Openings
+pub mod Apart

@@ -1,14 +1,12 @@
 -- A client's verb, over what the world is made of.
-use Rattle.std.specs.Prelude.{◌≡◌, ℕ, ◌+◌, ◌*◌, ◌<◌, Bool, true, not, List, length, map, slice_index_or}
+use Rattle.std.specs.Prelude.{◌≡◌, ℕ, ◌*◌, Bool, true, not, List, length, map, slice_index_or}
 use Rattle.machine.specs.Client.{next, told}
-use Rattle.machine.specs.declared.client_call.Step.{Step}
 use Rattle.machine.specs.Stage.{Client}
 use Rattle.machine_world.specs.Ledger.{caller_of, final_of, with_final, with_read, with_return, with_taking}
 use Rattle.machine_world.specs.Standing.{node_sizes}
 use Rattle.machine_world.specs.World.{Ledger, nobody}
 use Rattle.region_view.specs.Sizes.{Sizes}
 use Rattle.verb_words.specs.declared.verbs.Answer.{Answer}
-use Rattle.verb_words.specs.declared.verbs.Verb.{Verb}
 use Rattle.verb_words.specs.Applied.{answer_to, words_after}
 use Rattle.verb_words.specs.Verb.{place_of}
 use Rattle.verb_words.specs.Words.{HasPlace}

@@ -36,11 +36,7 @@ pub(crate) fn caller_of(alloc: Global, actor: &Actor) -> Result<Caller, AllocErr
 }
 
 /// The reply to the client's call that returns so.
-pub(crate) fn reply_of(
-    alloc: Global,
-    actor: &Actor,
-    outcome: Outcome,
-) -> Result<Reply, AllocError>
+pub(crate) fn reply_of(alloc: Global, actor: &Actor, outcome: Outcome) -> Result<Reply, AllocError>
     ensures { IfOk result (λ reply. reply ≡ reply_of actor.now outcome) }
 {
     match outcome {

@@ -6,6 +6,7 @@ mod advancing;
 mod calling;
 mod calls;
 mod dues;
+pub mod laws;
 mod openings;
 mod outside;
 mod readings;

@@ -313,7 +313,7 @@ mod tests {
             verb,
         )?;
         assert_eq!(rt; answer, Answer::Done);
-        assert_eq!(rt; ledger.entries().len(), 0);
+        assert_eq!(rt; ledger.in_order()?.len(), 0);
         Ok(())
     }
 

@@ -217,9 +217,7 @@ fn settle(
     let alloc = *trace.allocator();
     let verb = settling.next();
     let answer = if settling.is_opening() {
-        open_view(
-            alloc, shape, nodes, ledger, clients, settled, event, verb,
-        )?
+        open_view(alloc, shape, nodes, ledger, clients, settled, event, verb)?
     } else {
         nodes.apply(verb, true)
     };

@@ -1,9 +1,9 @@
-use Rattle.std.proofs.Common.{◌≡◌, ap, arith, subst, sym, ◌∙◌}
+use Rattle.std.proofs.Common.{ap, arith, subst, sym, ◌∙◌}
 use Rattle.std.specs.Prelude.{false}
 use Rattle.verb_words.specs.Applied.{words_after}
 use Rattle.verb_words.specs.Words.{HasPlace}
 use Rattle.verb_words.specs.declared.verbs.Verb.TheVariants.{Write}
-use Rattle.world_core.proofs.EventLemmas.{filled_up_to, none-filled, one-filled, place-filled, whole-filled}
+use Rattle.world_core.proofs.EventLemmas.{none-filled, one-filled, place-filled, whole-filled}
 use Rattle.world_core.proofs.outside.fill_words.Goals as goal
 
 pub loop-at-init : goal.loop-at-init

@@ -1,36 +1,36 @@
-use Rattle.std.proofs.Common.{◌≡◌, ap, sym, subst, map, ◌∙◌, ◌++◌}
+use Rattle.std.proofs.Common.{ap, sym, subst, map, ◌∙◌, ◌++◌}
 use Rattle.std.specs.Prelude.{not}
 use Rattle.machine.specs.Client.{told}
 use Rattle.machine_world.specs.Events.{moments_of}
 use Rattle.machine_world.specs.Ledger.{with_read}
 use Rattle.verb_words.specs.Applied.{answer_to}
 use Rattle.verb_history.specs.Moments.{moment_of}
-use Rattle.world_core.specs.Steps.{answer_for, client_in, ledger_for}
+use Rattle.world_core.specs.Steps.{answer_for, ledger_for}
 use Rattle.world_core.proofs.StepLemmas.{EndsAsTold, IsNoted, ended-ends, found-client, ledger-noted, moments-told, returning-has_rank}
 use Rattle.world_core.proofs.steps.take_verb.Goals as goal
 
 pub note_return-requires-clause-rank : goal.note_return-requires-clause-rank
 note_return-requires-clause-rank c =
     let noted : IsNoted c.args.shape.now c.args.nodes.now c.apply-answer.new.self c.args.event c.index-actor.result.now c.apply-answer.result c.args.ledger.now.ledger c.note_taking.new.self.ledger = record {
-        swap = c.final_swap.result;
-        is_swap = c.final_swap.ensures.swap;
-        decision = c.in_ok-decision.decision;
-        is_decision = c.in_ok-decision.ensures;
-        word = c.word_to_replace-before.result;
-        is_word = c.word_to_replace-before.ensures;
-        number = c.client.result;
-        is_number = c.client.ensures;
-        pointer = c.object.result;
-        is_pointer = c.object.ensures;
-        was = c.has_own_in_stock-was_in_stock.result;
-        is_was = c.has_own_in_stock-was_in_stock.ensures;
-        has = c.has_own_in_stock-is_in_stock.result;
-        is_has = c.has_own_in_stock-is_in_stock.ensures;
-        read = c.note_read.new.ledger.ledger;
-        reads = c.note_read.ensures.ledger ∙ ap (with_read c.args.event c.index-actor.result.now c.apply-answer.result) c.make_room.ensures.ledger;
-        decided = c.note_decision.new.ledger.ledger;
-        decides = c.note_decision.ensures.ledger;
-        takes = c.note_taking.ensures.ledger;
+      swap = c.final_swap.result;
+      is_swap = c.final_swap.ensures.swap;
+      decision = c.in_ok-decision.decision;
+      is_decision = c.in_ok-decision.ensures;
+      word = c.word_to_replace-before.result;
+      is_word = c.word_to_replace-before.ensures;
+      number = c.client.result;
+      is_number = c.client.ensures;
+      pointer = c.object.result;
+      is_pointer = c.object.ensures;
+      was = c.has_own_in_stock-was_in_stock.result;
+      is_was = c.has_own_in_stock-was_in_stock.ensures;
+      has = c.has_own_in_stock-is_in_stock.result;
+      is_has = c.has_own_in_stock-is_in_stock.ensures;
+      read = c.note_read.new.ledger.ledger;
+      reads = c.note_read.ensures.ledger ∙ ap (with_read c.args.event c.index-actor.result.now c.apply-answer.result) c.make_room.ensures.ledger;
+      decided = c.note_decision.new.ledger.ledger;
+      decides = c.note_decision.ensures.ledger;
+      takes = c.note_taking.ensures.ledger;
     } in
     returning-has_rank c.args.shape.now c.args.nodes.now c.apply-answer.new.self c.args.event c.index-actor.result.now c.apply-answer.result c.in_ok-returning.returning
     c.args.ledger.now.ledger c.note_taking.new.self.ledger noted c.requires.ready.ranks c.in_ok-returning.ensures
@@ -42,30 +42,30 @@ returns-clause-ledger c =
     let changed = found-client c.args.shape.now c.args.clients.now.items c.args.at c.index_mut.result.now c.requires.within c.index_mut.ensures.value in
     let same = changed ∙ sym found in
     let noted : IsNoted c.args.shape.now c.args.nodes.now c.apply-answer.new.self c.args.event actor c.apply-answer.result c.args.ledger.now.ledger c.note_taking.new.self.ledger = record {
-        swap = c.final_swap.result;
-        is_swap = c.final_swap.ensures.swap;
-        decision = c.in_ok-decision.decision;
-        is_decision = c.in_ok-decision.ensures;
-        word = c.word_to_replace-before.result;
-        is_word = c.word_to_replace-before.ensures;
-        number = c.client.result;
-        is_number = c.client.ensures;
-        pointer = c.object.result;
-        is_pointer = c.object.ensures;
-        was = c.has_own_in_stock-was_in_stock.result;
-        is_was = c.has_own_in_stock-was_in_stock.ensures;
-        has = c.has_own_in_stock-is_in_stock.result;
-        is_has = c.has_own_in_stock-is_in_stock.ensures;
-        read = c.note_read.new.ledger.ledger;
-        reads = c.note_read.ensures.ledger ∙ ap (with_read c.args.event c.index-actor.result.now c.apply-answer.result) c.make_room.ensures.ledger;
-        decided = c.note_decision.new.ledger.ledger;
-        decides = c.note_decision.ensures.ledger;
-        takes = c.note_taking.ensures.ledger;
+      swap = c.final_swap.result;
+      is_swap = c.final_swap.ensures.swap;
+      decision = c.in_ok-decision.decision;
+      is_decision = c.in_ok-decision.ensures;
+      word = c.word_to_replace-before.result;
+      is_word = c.word_to_replace-before.ensures;
+      number = c.client.result;
+      is_number = c.client.ensures;
+      pointer = c.object.result;
+      is_pointer = c.object.ensures;
+      was = c.has_own_in_stock-was_in_stock.result;
+      is_was = c.has_own_in_stock-was_in_stock.ensures;
+      has = c.has_own_in_stock-is_in_stock.result;
+      is_has = c.has_own_in_stock-is_in_stock.ensures;
+      read = c.note_read.new.ledger.ledger;
+      reads = c.note_read.ensures.ledger ∙ ap (with_read c.args.event c.index-actor.result.now c.apply-answer.result) c.make_room.ensures.ledger;
+      decided = c.note_decision.new.ledger.ledger;
+      decides = c.note_decision.ensures.ledger;
+      takes = c.note_taking.ensures.ledger;
     } in
     let ends = ended-ends c.index_mut.result.now c.apply-answer.result c.after-step.result c.after-step.ensures.ended in
     let noted_all = ledger-noted c.args.shape.now c.args.nodes.now c.apply-answer.new.self c.args.event actor c.apply-answer.result c.after-step.result c.in_ok-returning.returning
-        c.args.ledger.now.ledger c.note_taking.new.self.ledger c.note_return.new.ledger.ledger noted c.in_ok-returning.ensures (subst (λ client. EndsAsTold client c.after-step.result) same ends)
-        (c.after-step.ensures.told ∙ ap (λ client. told client c.apply-answer.result) same) c.note_return.ensures.ledger in
+    c.args.ledger.now.ledger c.note_taking.new.self.ledger c.note_return.new.ledger.ledger noted c.in_ok-returning.ensures (subst (λ client. EndsAsTold client c.after-step.result) same ends)
+    (c.after-step.ensures.told ∙ ap (λ client. told client c.apply-answer.result) same) c.note_return.ensures.ledger in
     let answers = c.apply-answer.ensures.answer ∙ ap (λ verb. answer_to c.args.nodes.now verb (not c.args.late)) c.next-verb.ensures.verb in
     noted_all
     ∙ ap (λ answer. ledger_for c.args.shape.now c.args.nodes.now c.apply-answer.new.self c.args.event actor answer c.args.ledger.now.ledger) answers

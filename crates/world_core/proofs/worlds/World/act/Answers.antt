@@ -1,11 +1,11 @@
-use Rattle.std.proofs.Common.{◌≡◌, ◌∷◌, ap, arith, map, refl, subst, sym, ◌∙◌, None}
-use Rattle.machine_world.specs.Events.{acts, seen_by, step_of, verb_event}
+use Rattle.std.proofs.Common.{◌≡◌, ◌∷◌, ap, map, refl, subst, sym, ◌∙◌, None}
+use Rattle.machine_world.specs.Events.{acts, step_of, verb_event}
 use Rattle.machine_world.specs.Refusals.{refusal}
 use Rattle.machine_world.specs.World.{World, nobody}
 use Rattle.verb_history.specs.Moments.{moment_of}
 use Rattle.world_core.specs.Reached.{IsRun}
 use Rattle.world_core.specs.Working.{task_of}
-use Rattle.world_core.proofs.ActLemmas.{acted, acts-run, own-client, stepped}
+use Rattle.world_core.proofs.ActLemmas.{acted, acts-run, stepped}
 use Rattle.world_core.proofs.ReadyLemmas.{run-can_step, run-ready, run-within}
 use Rattle.world_core.proofs.worlds.World.act.Goals as goal
 

@@ -1,9 +1,9 @@
-use Rattle.std.proofs.Common.{◌≡◌, ◌∷◌, ap, false, map, refl, sym, ◌∙◌}
-use Rattle.machine_world.specs.Readings.{division_of, has_returned}
-use Rattle.machine_world.specs.World.{World, is_registered, nobody}
+use Rattle.std.proofs.Common.{◌∷◌, ap, map, ◌∙◌}
+use Rattle.machine_world.specs.Readings.{division_of}
+use Rattle.machine_world.specs.World.{World, nobody}
 use Rattle.verb_history.specs.Moments.{moment_of}
 use Rattle.world_core.specs.Working.{task_of}
-use Rattle.world_core.proofs.SeenLemmas.{nobody-returned, seen-division}
+use Rattle.world_core.proofs.SeenLemmas.{seen-division}
 use Rattle.world_core.proofs.worlds.World.division.Goals as goal
 
 pub returns : goal.returns

@@ -1,9 +1,9 @@
 use Rattle.std.proofs.Common.{◌≡◌, ◌∷◌, ap, false, map, refl, sym, ◌∙◌}
-use Rattle.machine_world.specs.Readings.{division_of, has_returned}
+use Rattle.machine_world.specs.Readings.{has_returned}
 use Rattle.machine_world.specs.World.{World, is_registered, nobody}
 use Rattle.verb_history.specs.Moments.{moment_of}
 use Rattle.world_core.specs.Working.{task_of}
-use Rattle.world_core.proofs.SeenLemmas.{nobody-returned, seen-division}
+use Rattle.world_core.proofs.SeenLemmas.{nobody-returned}
 use Rattle.world_core.proofs.worlds.World.has_returned.Goals as goal
 
 pub returns-then-not-is_registered : goal.returns-then-not-is_registered

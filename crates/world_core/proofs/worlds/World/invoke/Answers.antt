@@ -5,7 +5,6 @@ use Rattle.machine_world.specs.declared.events.Event.TheVariants as event
 use Rattle.verb_history.specs.Moments.{moment_of}
 use Rattle.world_core.specs.Reached.{IsRun}
 use Rattle.world_core.specs.Working.{task_of}
-use Rattle.world_core.proofs.ReachedLemmas.{occurs-run}
 use Rattle.std.proofs.Common.{◌-◌}
 use Rattle.std.proofs.lemmas.List.{map_push}
 use Rattle.map_model.specs.Trace.{Invoked}
@@ -74,10 +73,10 @@ invariant_of-self-2 c =
     let found = found-client c.self.inside.shape c.self.inside.clients.items (c.args.client - 1) c.index_mut-actor.result.now (omega (arith, known.0, known.1)) c.index_mut-actor.ensures.value in
     let own = found ∙ own-client world c.self.inside.clients.items c.args.client refl known.0 in
     let told = ap (map moment_of) (c.push_reserved.ensures.items ∙ ap (λ list. list ++ moment.Invoked c.args.client c.number-number.result c.args.call ∷ []) c.reserve.ensures.items)
-        ∙ map_push moment_of c.self.inside.trace.items (moment.Invoked c.args.client c.number-number.result c.args.call)
-        ∙ ap (λ n. map moment_of c.self.inside.trace.items ++ Invoked c.args.client n c.args.call ∷ []) (c.number-number.ensures ∙ ap (λ (me : Client). me.number) c.invoke.ensures ∙ ap (λ (me : Client). me.number + 1) found) in
+    ∙ map_push moment_of c.self.inside.trace.items (moment.Invoked c.args.client c.number-number.result c.args.call)
+    ∙ ap (λ n. map moment_of c.self.inside.trace.items ++ Invoked c.args.client n c.args.call ∷ []) (c.number-number.ensures ∙ ap (λ (me : Client). me.number) c.invoke.ensures ∙ ap (λ (me : Client). me.number + 1) found) in
     let same = invoked-world world c.self.inside.clients.items c.args.client c.args.call c.invoke.new.actor (map moment_of c.push_reserved.new.self.items) refl known.0
-        (c.invoke.ensures ∙ ap (λ me. invoked me (operation_of c.args.call) (key_of c.args.call) (value_of c.args.call)) found) told in
+    (c.invoke.ensures ∙ ap (λ me. invoked me (operation_of c.args.call) (key_of c.args.call) (value_of c.args.call)) found) told in
     subst IsRun (sym same) (invokes-run world c.args.client c.args.call allowed c.self.invariant)
 
 pub returns-clause-happened : goal.returns-clause-happened
@@ -115,8 +114,8 @@ returns-clause-world c =
     let found = found-client c.self.inside.shape c.self.inside.clients.items (c.args.client - 1) c.index_mut-actor.result.now (omega (arith, known.0, known.1)) c.index_mut-actor.ensures.value in
     let own = found ∙ own-client world c.self.inside.clients.items c.args.client refl known.0 in
     let told = ap (map moment_of) (c.push_reserved.ensures.items ∙ ap (λ list. list ++ moment.Invoked c.args.client c.number-number.result c.args.call ∷ []) c.reserve.ensures.items)
-        ∙ map_push moment_of c.self.inside.trace.items (moment.Invoked c.args.client c.number-number.result c.args.call)
-        ∙ ap (λ n. map moment_of c.self.inside.trace.items ++ Invoked c.args.client n c.args.call ∷ []) (c.number-number.ensures ∙ ap (λ (me : Client). me.number) c.invoke.ensures ∙ ap (λ (me : Client). me.number + 1) found) in
+    ∙ map_push moment_of c.self.inside.trace.items (moment.Invoked c.args.client c.number-number.result c.args.call)
+    ∙ ap (λ n. map moment_of c.self.inside.trace.items ++ Invoked c.args.client n c.args.call ∷ []) (c.number-number.ensures ∙ ap (λ (me : Client). me.number) c.invoke.ensures ∙ ap (λ (me : Client). me.number + 1) found) in
     let same = invoked-world world c.self.inside.clients.items c.args.client c.args.call c.invoke.new.actor (map moment_of c.push_reserved.new.self.items) refl known.0
-        (c.invoke.ensures ∙ ap (λ me. invoked me (operation_of c.args.call) (key_of c.args.call) (value_of c.args.call)) found) told in
+    (c.invoke.ensures ∙ ap (λ me. invoked me (operation_of c.args.call) (key_of c.args.call) (value_of c.args.call)) found) told in
     same ∙ ap (λ w. invokes w c.args.client c.args.call) c.self.view_is

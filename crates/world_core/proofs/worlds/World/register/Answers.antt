@@ -1,4 +1,4 @@
-use Rattle.std.proofs.Common.{◌≡◌, ◌∷◌, ◌++◌, [], ◌+◌, ap, arith, length, map, refl, subst, sym, ◌∙◌, None}
+use Rattle.std.proofs.Common.{◌≡◌, ◌∷◌, ◌++◌, [], ◌+◌, ap, arith, length, map, subst, sym, ◌∙◌, None}
 use Rattle.machine_world.specs.Refusals.{refusal}
 use Rattle.machine_world.specs.World.{World, nobody}
 use Rattle.machine_world.specs.declared.events.Event.TheVariants as event
@@ -40,7 +40,7 @@ invariant_of-self-2 c =
     let allowed : refusal world event.Register ≡ None = ap (λ w. refusal w event.Register) c.self.view_is ∙ c.requires.allowed in
     let number : c.len.result + 1 ≡ length world.clients = omega (arith, c.len.ensures) in
     let clients = c.push_reserved.ensures.items
-        ∙ (λ i. c.reserve.ensures.items i ++ (c.in_ok-actor.ensures ∙ ap (λ n. first_client n c.self.inside.shape) number) i ∷ []) in
+    ∙ (λ i. c.reserve.ensures.items i ++ (c.in_ok-actor.ensures ∙ ap (λ n. first_client n c.self.inside.shape) number) i ∷ []) in
     subst IsRun (sym (λ i. record {
       shape = c.self.inside.shape;
       nodes = c.self.inside.nodes;

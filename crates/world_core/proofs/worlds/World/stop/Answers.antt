@@ -1,4 +1,4 @@
-use Rattle.std.proofs.Common.{◌≡◌, ◌∷◌, ◌++◌, [], ◌+◌, ap, arith, length, map, refl, subst, sym, ◌∙◌, None}
+use Rattle.std.proofs.Common.{◌≡◌, ◌∷◌, ◌++◌, [], ◌+◌, ap, map, subst, sym, ◌∙◌, None}
 use Rattle.machine_world.specs.Refusals.{refusal}
 use Rattle.machine_world.specs.World.{World, nobody}
 use Rattle.machine_world.specs.declared.events.Event.TheVariants as event
