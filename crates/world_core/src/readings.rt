@@ -105,8 +105,8 @@ impl World {
         number == actor.number() && actor.is_idle()
     }
 
-    /// The history: the calls that have taken effect, in an order in which one map gives these replies.
-    /// It takes time n log n in their number.
+    /// The history: the calls that have taken effect, in the order of their points. It takes time
+    /// n log n in their number.
     pub fn history(&self) -> Result<Vec<Entry>, AllocError>
         ensures { IfOk result (λ list. list.items ≡ history_of self.now) }
     {
