@@ -17,7 +17,8 @@ use Rattle.script_text.specs.declared.out_lines.OutLine.{OutLine}
 use Rattle.script_text.specs.declared.out_lines.OutLine.TheVariants as out
 use Rattle.script_text.specs.declared.scripts.Line.TheVariants as line
 use Rattle.sim_meaning.specs.Counts.{most_events, events_of_turn}
-use Rattle.sim_meaning.specs.Driver.{Driven, Driver, Numbers, acts, awaits_recovery, carries_out, client_of, clients_of, does, first_driver, followed_by, invokes, is_loss_due, is_over, is_passed_over, is_to_stop, loses, loses_if_due, manages, most_turns, next_call, recovers, recovers_each, registers, rests, settles, simulated, simulated_on, sizes_of, steps, steps_and_stops, turn, turn_of, turns, verbs_of}
+use Rattle.sim_meaning.specs.Driver.{Driven, Driver, acts, awaits_recovery, carries_out, client_of, clients_of, does, first_driver, followed_by, invokes, is_loss_due, is_over, is_passed_over, is_to_stop, loses, loses_if_due, manages, most_turns, next_call, recovers, recovers_each, registers, rests, settles, simulated, simulated_on, sizes_of, steps, steps_and_stops, turn, turn_of, turns, verbs_of}
+use Rattle.sim_meaning.specs.declared.numbers.Numbers.{Numbers}
 
 -- what is done is so many events at most
 abbrev pub IsWithin : ℕ → Driven → Type 0
@@ -53,7 +54,7 @@ unless world (Some reason) does is = omega arith
 one_event : (world : World) (event : Event) (lines : List OutLine) → IsFew 1 (unless_refused world event (comes world event lines))
 one_event world event lines = unless world (refusal world event) (comes world event lines) (omega arith)
 
-registered-one : (driver : Driver) → IsWithin 1 (carries_out driver line.Register)
+pub registered-one : (driver : Driver) → IsWithin 1 (carries_out driver line.Register)
 registered-one driver = one_event driver.world event.Register (out.Client (length driver.world.clients) ∷ [])
 
 stopped-one : (driver : Driver) (client : ℕ) → IsWithin 1 (carries_out driver (line.Stop client))
@@ -67,7 +68,7 @@ called-one driver client call = one_event driver.world (event.Invoke client call
 
 -- A line is at most its verbs and one event.
 
-stepped-within : (driver : Driver) (client verbs most : ℕ) → verbs ≤ most → IsWithin (most + 1) (carries_out driver (line.Step client verbs))
+pub stepped-within : (driver : Driver) (client verbs most : ℕ) → verbs ≤ most → IsWithin (most + 1) (carries_out driver (line.Step client verbs))
 stepped-within driver client verbs most few =
     wider (carries_out driver (line.Step client verbs)) (verbs + 1) (most + 1) (omega arith) (meaning-within false driver.world (line.Step client verbs))
 
@@ -75,7 +76,7 @@ called_if : (driver : Driver) (client : ℕ) (next : Option Call) → IsWithin 1
 called_if driver client None = rested driver 1
 called_if driver client (Some call) = called-one driver client call
 
-invokes-within : (numbers : Numbers) (client : ℕ) (driver : Driver) → IsWithin 1 (invokes numbers client driver)
+pub invokes-within : (numbers : Numbers) (client : ℕ) (driver : Driver) → IsWithin 1 (invokes numbers client driver)
 invokes-within numbers client driver =
     either (is_idle (client_at driver.world client))
     (option_map_or (λ call. does driver (only_calls driver.world client call)) (next_call numbers driver.world client) (rests driver)) (rests driver) 1
@@ -97,17 +98,17 @@ steps-within numbers word client driver =
     (either (is_to_stop numbers driver.world client) stopping going 66 (steps_and_stops-within client (verbs_of word 64) driver (verbs_of-few word).0)
     (wider going 65 66 (omega arith) (stepped-within driver client (verbs_of word 8) 64 (verbs_of-few word).1)))
 
-acts-within : (numbers : Numbers) (word client : ℕ) (driver : Driver) → IsWithin 67 (acts numbers word client driver)
+pub acts-within : (numbers : Numbers) (word client : ℕ) (driver : Driver) → IsWithin 67 (acts numbers word client driver)
 acts-within numbers word client driver =
     either (is_passed_over numbers driver.world client) (rests driver) (followed_by (invokes numbers client driver) (steps numbers word client)) 67 (rested driver 67)
     (followed (invokes numbers client driver) (steps numbers word client) 1 66 (invokes-within numbers client driver) (steps-within numbers word client))
 
-loses_if_due-within : (numbers : Numbers) (driver : Driver) → IsWithin 1 (loses_if_due numbers driver)
+pub loses_if_due-within : (numbers : Numbers) (driver : Driver) → IsWithin 1 (loses_if_due numbers driver)
 loses_if_due-within numbers driver =
     either (is_loss_due numbers driver) (loses driver) (rests driver) 1
     (lost-one (record driver { losses = driver.losses + 1; settling = true }) (driver.losses + 1)) (rested driver 1)
 
-recovers-within : (client : ℕ) (driver : Driver) → IsWithin (most_verbs + 1) (recovers client driver)
+pub recovers-within : (client : ℕ) (driver : Driver) → IsWithin (most_verbs + 1) (recovers client driver)
 recovers-within client driver =
     either (awaits_recovery driver.world client) (carries_out driver (line.Recover client)) (rests driver) (most_verbs + 1)
     (meaning-within false driver.world (line.Recover client)) (rested driver (most_verbs + 1))

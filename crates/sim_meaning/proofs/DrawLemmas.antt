@@ -9,7 +9,8 @@ use Rattle.map_model.specs.declared.calls.Call.{Call}
 use Rattle.rand_pcg.specs.Pcg.{pcg32}
 use Rattle.script_meaning.specs.Lines.{Ran, only_calls}
 use Rattle.script_text.specs.declared.scripts.Line.TheVariants as line
-use Rattle.sim_meaning.specs.Driver.{Driven, Driver, Numbers, acts, awaits_recovery, calls_before_loss, carries_out, client_of, clients_of, does, followed_by, invokes, is_loss_due, is_passed_over, is_to_stop, loses, loses_if_due, manages, next_call, recovers, recovers_each, rests, returned_in, settles, steps, steps_and_stops, turn, turn_of, verbs_of}
+use Rattle.sim_meaning.specs.Driver.{Driven, Driver, acts, awaits_recovery, calls_before_loss, carries_out, client_of, clients_of, does, followed_by, invokes, is_loss_due, is_passed_over, is_to_stop, loses, loses_if_due, manages, next_call, recovers, recovers_each, rests, returned_in, settles, steps, steps_and_stops, turn, turn_of, verbs_of}
+use Rattle.sim_meaning.specs.declared.numbers.Numbers.{Numbers}
 
 -- what stays so whatever the driver does
 pub record IsKept (numbers : Numbers) (driver : Driver) (done : Driven) : Type 0 where

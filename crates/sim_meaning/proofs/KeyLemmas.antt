@@ -24,7 +24,7 @@ after-other map (Put own value) Done key other = rw other refl
 after-other map (Delete own) Done key other = rw other refl
 after-other map call reply key other = refl
 
-map_after-other : (map : Map) (entries : List Entry) (key : List ℕ) → list_any (has_key key) entries ≡ false → map_after map entries key ≡ map key
+pub map_after-other : (map : Map) (entries : List Entry) (key : List ℕ) → list_any (has_key key) entries ≡ false → map_after map entries key ≡ map key
 map_after-other map [] key none = refl
 map_after-other map (entry ∷ entries) key none =
     let both = neither (bytes_eq (key_of entry.call) key) (list_any (has_key key) entries) none in

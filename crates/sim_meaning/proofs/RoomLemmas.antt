@@ -13,7 +13,8 @@ use Rattle.script_meaning.specs.Lines.{most_verbs}
 use Rattle.sim_meaning.proofs.CountLemmas.{turn-within}
 use Rattle.sim_meaning.proofs.RunLemmas.{turn-run}
 use Rattle.sim_meaning.specs.Counts.{events_of_turn, most_events}
-use Rattle.sim_meaning.specs.Driver.{Driver, Numbers, most_turns, turn}
+use Rattle.sim_meaning.specs.Driver.{Driver, most_turns, turn}
+use Rattle.sim_meaning.specs.declared.numbers.Numbers.{Numbers}
 
 works_on-counted : (world : World) (task : TaskState) → (works_on world task).events ≤ world.events + 1
 works_on-counted world NoTask = omega arith

@@ -14,20 +14,21 @@ use Rattle.script_meaning.specs.Lines.{only_calls}
 use Rattle.script_text.specs.declared.scripts.CallText.TheVariants as call
 use Rattle.script_text.specs.declared.scripts.Line.{Line}
 use Rattle.script_text.specs.declared.scripts.Line.TheVariants as line
-use Rattle.sim_meaning.specs.Driver.{Driven, Driver, Numbers, acts, awaits_recovery, carries_out, client_of, clients_of, does, first_driver, followed_by, invokes, is_loss_due, is_over, is_passed_over, is_to_stop, loses, loses_if_due, manages, most_turns, next_call, recovers, recovers_each, registers, rests, settles, simulated, simulated_on, sizes_of, steps, steps_and_stops, turn, turn_of, turns, verbs_of}
+use Rattle.sim_meaning.specs.Driver.{Driven, Driver, acts, awaits_recovery, carries_out, client_of, clients_of, does, first_driver, followed_by, invokes, is_loss_due, is_over, is_passed_over, is_to_stop, loses, loses_if_due, manages, most_turns, next_call, recovers, recovers_each, registers, rests, settles, simulated, simulated_on, sizes_of, steps, steps_and_stops, turn, turn_of, turns, verbs_of}
+use Rattle.sim_meaning.specs.declared.numbers.Numbers.{Numbers}
 
 -- the world of what is done is the one after its events
 abbrev pub IsRun : Driver → Driven → Type 0
 IsRun driver done = done.driver.world ≡ run_from driver.world done.events
 
-rested : (driver : Driver) → IsRun driver (rests driver)
+pub rested : (driver : Driver) → IsRun driver (rests driver)
 unfolding run_from
 rested driver = refl
 
-carried : (driver : Driver) (line : Line) → IsRun driver (carries_out driver line)
+pub carried : (driver : Driver) (line : Line) → IsRun driver (carries_out driver line)
 carried driver line = meaning-run false driver.world line
 
-followed : (driver : Driver) (first : Driven) (rest : Driver → Driven) → IsRun driver first → ((now : Driver) → IsRun now (rest now)) → IsRun driver (followed_by first rest)
+pub followed : (driver : Driver) (first : Driven) (rest : Driver → Driven) → IsRun driver first → ((now : Driver) → IsRun now (rest now)) → IsRun driver (followed_by first rest)
 followed driver first rest is after =
     after first.driver
     ∙ ap (λ now. run_from now (rest first.driver).events) is
@@ -47,7 +48,7 @@ called_if : (driver : Driver) (client : ℕ) (next : Option Call) → IsRun driv
 called_if driver client None = rested driver
 called_if driver client (Some call) = called driver client call
 
-invokes-run : (numbers : Numbers) (client : ℕ) (driver : Driver) → IsRun driver (invokes numbers client driver)
+pub invokes-run : (numbers : Numbers) (client : ℕ) (driver : Driver) → IsRun driver (invokes numbers client driver)
 invokes-run numbers client driver =
     either driver (is_idle (client_at driver.world client))
     (option_map_or (λ call. does driver (only_calls driver.world client call)) (next_call numbers driver.world client) (rests driver)) (rests driver)
@@ -65,15 +66,15 @@ steps-run numbers word client driver =
     either driver (is_idle (client_at driver.world client)) (rests driver) (if is_to_stop numbers driver.world client then stopping else going) (rested driver)
     (either driver (is_to_stop numbers driver.world client) stopping going (steps_and_stops-run client (verbs_of word 64) driver) (carried driver (line.Step client (verbs_of word 8))))
 
-acts-run : (numbers : Numbers) (word client : ℕ) (driver : Driver) → IsRun driver (acts numbers word client driver)
+pub acts-run : (numbers : Numbers) (word client : ℕ) (driver : Driver) → IsRun driver (acts numbers word client driver)
 acts-run numbers word client driver =
     either driver (is_passed_over numbers driver.world client) (rests driver) (followed_by (invokes numbers client driver) (steps numbers word client)) (rested driver)
     (followed driver (invokes numbers client driver) (steps numbers word client) (invokes-run numbers client driver) (steps-run numbers word client))
 
-loses_if_due-run : (numbers : Numbers) (driver : Driver) → IsRun driver (loses_if_due numbers driver)
+pub loses_if_due-run : (numbers : Numbers) (driver : Driver) → IsRun driver (loses_if_due numbers driver)
 loses_if_due-run numbers driver = either driver (is_loss_due numbers driver) (loses driver) (rests driver) (carried driver (line.Lose (driver.losses + 1))) (rested driver)
 
-recovers-run : (client : ℕ) (driver : Driver) → IsRun driver (recovers client driver)
+pub recovers-run : (client : ℕ) (driver : Driver) → IsRun driver (recovers client driver)
 recovers-run client driver =
     either driver (awaits_recovery driver.world client) (carries_out driver (line.Recover client)) (rests driver) (carried driver (line.Recover client)) (rested driver)
 

@@ -1,7 +1,8 @@
 -- How many events a simulation may be.
 use Rattle.std.specs.Prelude.{ℕ, ◌+◌, ◌*◌}
 use Rattle.script_meaning.specs.Lines.{most_verbs}
-use Rattle.sim_meaning.specs.Driver.{Numbers, most_turns}
+use Rattle.sim_meaning.specs.Driver.{most_turns}
+use Rattle.sim_meaning.specs.declared.numbers.Numbers.{Numbers}
 
 -- a turn is an invocation, up to 64 verbs and an event more, a stop, a loss, and for the settling and each recovery an event
 -- and the verbs of a line that goes on

@@ -15,16 +15,8 @@ use Rattle.region_view.specs.Sizes.{Sizes}
 use Rattle.script_meaning.specs.Lines.{Ran, meaning, only_calls}
 use Rattle.script_text.specs.declared.scripts.Line.{Line}
 use Rattle.script_text.specs.declared.scripts.Line.TheVariants as line
+use Rattle.sim_meaning.specs.declared.numbers.Numbers.{Numbers}
 use Rattle.sim_plan.specs.Made.{plan, seeded}
-
--- what a simulation is of: the number that all words come from, how many clients there are and how many calls each makes,
--- how many of the clients stop, and how many nodes are lost
-pub record Numbers : Type 0 where
-  pub seed : ℕ
-  pub clients : ℕ
-  pub calls : ℕ
-  pub stops : ℕ
-  pub losses : ℕ
 
 -- what the driver goes by: the world, the generator of the words that are left, how many nodes it has lost, and whether a
 -- settling is under way

@@ -1,7 +1,7 @@
 -- Simulations with few calls, and their summaries.
 use Rattle.std.specs.Prelude.{ℕ, List, codes}
 use Rattle.region_view.specs.Sizes.{Sizes}
-use Rattle.sim_meaning.specs.Driver.{Numbers}
+use Rattle.sim_meaning.specs.declared.numbers.Numbers.{Numbers}
 
 -- one client makes one call, a delete of a key that has no value
 abbrev pub one_delete : Numbers

@@ -17,7 +17,8 @@ use Rattle.region_view.specs.Sizes.{Sizes}
 use Rattle.script_meaning.specs.Shown.{division_lines}
 use Rattle.script_text.specs.OutputText.{joined, line_words}
 use Rattle.script_text.specs.declared.out_lines.OutLine.TheVariants.{End}
-use Rattle.sim_meaning.specs.Driver.{Driven, Numbers, returned_in, simulated_on, sizes_of}
+use Rattle.sim_meaning.specs.Driver.{Driven, returned_in, simulated_on, sizes_of}
+use Rattle.sim_meaning.specs.declared.numbers.Numbers.{Numbers}
 
 -- Calls.
 

@@ -3,3 +3,6 @@
 #![tactic(auto)]
 
 pub mod laws;
+mod numbers;
+
+pub use numbers::Numbers;
