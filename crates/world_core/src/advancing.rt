@@ -30,8 +30,8 @@ impl World {
         }
     }
 
-    // An event that is not refused.
-    fn carry_out(&mut self, event: Event) -> Result<Happened, AllocError>
+    /// An event that is not refused, for a caller that knows. Where memory is wanting nothing changes.
+    pub fn carry_out(&mut self, event: Event) -> Result<Happened, AllocError>
         requires events { self.old.events < 2 ^ 63 }
         requires allowed { refusal self.old event ≡ None }
         ensures happened { IfOk result (λ happened. happened ≡ comes_to self.old event) }

@@ -1,8 +1,10 @@
 //! A client's verb, as it comes or late.
 
-ghost use Rattle.std.specs.Prelude.{◌≡◌, ◌+◌, ◌++◌, ◌<◌, ◌^◌, None, IfOk, OnErr, OnOk, length, map, slice_set};
+ghost use Rattle.std.specs.Prelude.{◌≡◌, ◌+◌, ◌++◌, ◌<◌, ◌^◌, [], None, IfOk, OnErr, OnOk, false, length, map, slice_set};
+ghost use Rattle.kv_ops.specs.Ahead.{is_ending};
 ghost use Rattle.machine.specs.Client.{after, next, told};
 ghost use Rattle.machine_world.specs.Events.{acts, moments_of, step_of, verb_event};
+ghost use Rattle.machine_world.specs.Ledger.{final_of};
 ghost use Rattle.machine_world.specs.Refusals.{refusal};
 ghost use Rattle.verb_history.specs.Moments.{moment_of};
 ghost use Rattle.world_core.specs.Steps.{CanStep, IsReady, answer_for, client_in, ledger_for, nodes_for};
@@ -60,7 +62,102 @@ impl World {
     }
 }
 
+// A verb of the client at a place of the list. Most verbs neither decide a slot nor end a call, and need
+// no memory.
 fn take_verb(
+    shape: &Shape,
+    nodes: &mut Nodes,
+    clients: &mut Vec<kv_ops::Actor>,
+    ledger: &mut Ledger,
+    trace: &mut Vec<Moment>,
+    event: u64,
+    at: usize,
+    late: bool,
+) -> Result<Taken, AllocError>
+    requires within { at < length clients.old.items }
+    requires ready { IsReady shape.now nodes.old ledger.old.ledger }
+    requires client { CanStep shape.now nodes.old (client_in shape.now clients.old.items at) }
+    ensures verb { IfOk result (λ taken. taken.verb ≡ next (client_in shape.now clients.old.items at)) }
+    ensures answer { IfOk result (λ taken. taken.answer
+        ≡ answer_for late nodes.old (client_in shape.now clients.old.items at)) }
+    ensures step { IfOk result (λ taken. taken.step
+        ≡ told (client_in shape.now clients.old.items at)
+        (answer_for late nodes.old (client_in shape.now clients.old.items at))) }
+    ensures nodes { OnOk result (nodes.new
+        ≡ nodes_for late nodes.old (client_in shape.now clients.old.items at)) }
+    ensures clients { OnOk result (clients.new.items
+        ≡ slice_set clients.old.items at (after (client_in shape.now clients.old.items at)
+        (answer_for late nodes.old (client_in shape.now clients.old.items at)))) }
+    ensures ledger { OnOk result (ledger.new.ledger
+        ≡ ledger_for shape.now nodes.old nodes.new event (client_in shape.now clients.old.items at)
+        (answer_for late nodes.old (client_in shape.now clients.old.items at)) ledger.old.ledger) }
+    ensures trace { OnOk result (map moment_of trace.new.items
+        ≡ map moment_of trace.old.items ++ moments_of (client_in shape.now clients.old.items at)
+        (told (client_in shape.now clients.old.items at)
+        (answer_for late nodes.old (client_in shape.now clients.old.items at)))) }
+    ensures same_nodes { OnErr result (nodes.new ≡ nodes.old) }
+    ensures same_clients { OnErr result (clients.new.items ≡ clients.old.items) }
+    ensures same_ledger { OnErr result (ledger.new.ledger ≡ ledger.old.ledger) }
+    ensures same_trace { OnErr result (trace.new.items ≡ trace.old.items) }
+{
+    if may_be_noted(&clients[at]) {
+        return take_noted_verb(shape, nodes, clients, ledger, trace, event, at, late);
+    }
+    Ok(take_plain_verb(shape, nodes, &mut clients[at], ledger, event, late))
+}
+
+// Whether the client's next verb may decide a slot or end the call.
+fn may_be_noted(actor: &kv_ops::Actor) -> bool
+    ensures ends { result ≡ false → is_ending actor.now.stage ≡ false }
+    ensures decides { result ≡ false → final_of actor.now.stage ≡ None }
+{
+    if actor.is_ending() {
+        return true;
+    }
+    actor.final_swap().is_some()
+}
+
+// A verb that neither decides a slot nor ends the call.
+fn take_plain_verb(
+    shape: &Shape,
+    nodes: &mut Nodes,
+    actor: &mut kv_ops::Actor,
+    ledger: &mut Ledger,
+    event: u64,
+    late: bool,
+) -> Taken
+    requires ready { IsReady shape.now nodes.old ledger.old.ledger }
+    requires client { CanStep shape.now nodes.old actor.old }
+    requires ends { is_ending actor.old.stage ≡ false }
+    requires decides { final_of actor.old.stage ≡ None }
+    ensures verb { result.verb ≡ next actor.old }
+    ensures answer { result.answer ≡ answer_for late nodes.old actor.old }
+    ensures step { result.step ≡ told actor.old (answer_for late nodes.old actor.old) }
+    ensures nodes { nodes.new ≡ nodes_for late nodes.old actor.old }
+    ensures actor { actor.new ≡ after actor.old (answer_for late nodes.old actor.old) }
+    ensures ledger { ledger.new.ledger ≡ ledger_for shape.now nodes.old nodes.new event actor.old
+        (answer_for late nodes.old actor.old) ledger.old.ledger }
+    ensures silent { moments_of actor.old (told actor.old (answer_for late nodes.old actor.old)) ≡ [] }
+{
+    let verb = actor.next();
+    let may_take = may_take(shape, actor, verb.place());
+    let was_in_stock = has_own_in_stock(nodes, shape, actor, may_take);
+    let answer = nodes.apply(verb, !late);
+    note_read(ledger, actor, answer, event);
+    let is_in_stock = has_own_in_stock(nodes, shape, actor, may_take);
+    ledger.note_taking(
+        shape,
+        actor.client(),
+        actor.object(),
+        was_in_stock,
+        is_in_stock,
+    );
+    let step = actor.after(answer);
+    Taken { verb, answer, step }
+}
+
+// A verb that may decide a slot or end the call: room for what it may bring is made before it is taken.
+fn take_noted_verb(
     shape: &Shape,
     nodes: &mut Nodes,
     clients: &mut Vec<kv_ops::Actor>,

@@ -7,7 +7,7 @@ use Rattle.verb_words.specs.Applied.{answer_to}
 use Rattle.verb_history.specs.Moments.{moment_of}
 use Rattle.world_core.specs.Steps.{answer_for, ledger_for}
 use Rattle.world_core.proofs.StepLemmas.{EndsAsTold, IsNoted, ended-ends, found-client, ledger-noted, moments-told, own_stays, returning-has_rank}
-use Rattle.world_core.proofs.steps.take_verb.Goals as goal
+use Rattle.world_core.proofs.steps.take_noted_verb.Goals as goal
 
 pub note_return-requires-clause-rank : goal.note_return-requires-clause-rank
 note_return-requires-clause-rank c =
