@@ -3,9 +3,13 @@
 ghost use Rattle.std.specs.Prelude.{◌≡◌, ◌+◌, ◌++◌, ◌<◌, ◌^◌, [], None, IfOk, OnErr, OnOk, false, length, map, slice_set};
 ghost use Rattle.kv_ops.specs.Ahead.{is_ending};
 ghost use Rattle.machine.specs.Client.{after, next, told};
-ghost use Rattle.machine_world.specs.Events.{acts, moments_of, step_of, verb_event};
+ghost use Rattle.machine_world.specs.Events.{acts, answer_of, moments_of, seen_by, step_of, verb_event};
 ghost use Rattle.machine_world.specs.Ledger.{final_of};
 ghost use Rattle.machine_world.specs.Refusals.{refusal};
+ghost use Rattle.machine_world.specs.World.{client_at};
+ghost use Rattle.machine_world.specs.declared.events.Event.TheVariants as event;
+ghost use Rattle.machine_world.specs.declared.outcomes.Actor.TheVariants as taker;
+ghost use Rattle.machine_world.specs.declared.outcomes.Happened.TheVariants as happened;
 ghost use Rattle.verb_history.specs.Moments.{moment_of};
 ghost use Rattle.world_core.specs.Steps.{CanStep, IsReady, answer_for, client_in, ledger_for, nodes_for};
 
@@ -39,6 +43,38 @@ impl World {
         ensures world { OnOk result (self.new ≡ acts late self.old client) }
         ensures same { OnErr result (self.new ≡ self.old) }
     {
+        let taken = self.take(client, late)?;
+        Ok(Happened::Stepped {
+            seen: Seen {
+                actor: Actor::Client(client),
+                verb: taken.verb,
+                answer: taken.answer,
+            },
+            step: taken.step,
+        })
+    }
+
+    /// A client that may take its next verb takes it, as by `advance`, and what came of it is told
+    /// alone: neither the verb nor its answer. Where memory is wanting nothing changes.
+    pub fn step(&mut self, client: u32) -> Result<Step, AllocError>
+        requires events { self.old.events < 2 ^ 63 }
+        requires allowed { refusal self.old (event.Step client) ≡ None }
+        ensures told { IfOk result (λ step. step ≡ told (client_at self.old client) (answer_of false self.old client)) }
+        ensures world { OnOk result (self.new ≡ acts false self.old client) }
+        ensures same { OnErr result (self.new ≡ self.old) }
+    {
+        let taken = self.take(client, false)?;
+        Ok(taken.step)
+    }
+
+    fn take(&mut self, client: u32, late: bool) -> Result<Taken, AllocError>
+        requires events { self.old.events < 2 ^ 63 }
+        requires allowed { refusal self.old (verb_event late client) ≡ None }
+        ensures taken { IfOk result (λ taken. happened.Stepped
+            (seen_by (taker.Client client) taken.verb taken.answer) taken.step ≡ step_of late self.old client) }
+        ensures world { OnOk result (self.new ≡ acts late self.old client) }
+        ensures same { OnErr result (self.new ≡ self.old) }
+    {
         let shape = self.shape;
         let taken = take_verb(
             &shape,
@@ -51,14 +87,7 @@ impl World {
             late,
         )?;
         self.events += 1;
-        Ok(Happened::Stepped {
-            seen: Seen {
-                actor: Actor::Client(client),
-                verb: taken.verb,
-                answer: taken.answer,
-            },
-            step: taken.step,
-        })
+        Ok(taken)
     }
 }
 

@@ -7,7 +7,7 @@ use Rattle.world_core.specs.Reached.{IsRun}
 use Rattle.world_core.specs.Working.{task_of}
 use Rattle.world_core.proofs.ActLemmas.{acted, acts-run, stepped}
 use Rattle.world_core.proofs.ReadyLemmas.{run-can_step, run-ready, run-within}
-use Rattle.world_core.proofs.worlds.World.act.Goals as goal
+use Rattle.world_core.proofs.worlds.World.take.Goals as goal
 
 pub take_verb-requires-clause-ready : goal.take_verb-requires-clause-ready
 take_verb-requires-clause-ready c =
@@ -57,8 +57,8 @@ invariant_of-self-2 c =
     refl within.0 c.in_ok-taken.ensures.nodes c.in_ok-taken.ensures.clients c.in_ok-taken.ensures.trace c.in_ok-taken.ensures.ledger))
     (acts-run c.args.late world c.args.client allowed c.self.invariant)
 
-pub returns-clause-happened : goal.returns-clause-happened
-returns-clause-happened c =
+pub returns-clause-taken : goal.returns-clause-taken
+returns-clause-taken c =
     let world : World = record {
       shape = c.self.inside.shape;
       nodes = c.self.inside.nodes;
