@@ -242,7 +242,7 @@ fn client_of(actor: Actor) -> u32
     }
 }
 
-fn told_of_step(
+pub(crate) fn told_of_step(
     alloc: Global,
     client: u32,
     step: Step,

@@ -1,23 +1,25 @@
 // The verbs of a line.
 
-ghost use Rattle.std.specs.Prelude.{◌≡◌, ◌+◌, ◌<◌, ◌≤◌, ◌^◌, ◌++◌, IfErr, IfOk, None, OnOk, is_some, map};
+ghost use Rattle.std.specs.Prelude.{◌≡◌, ◌+◌, ◌<◌, ◌≤◌, ◌^◌, ◌++◌, IfErr, IfOk, None, OnOk, false, is_some, map};
 ghost use Rattle.machine_world.specs.Events.{comes_to, happens};
 ghost use Rattle.machine_world.specs.Refusals.{refusal};
+ghost use Rattle.machine_world.specs.declared.events.Event.TheVariants as event;
 ghost use Rattle.outside.specs.Faults.{IsSteady};
 ghost use Rattle.script_meaning.specs.Lines.{taker_of, takes, takes_up_to, told_line, verb_lines};
-ghost use Rattle.script_run.specs.Turns.{LastsFor, event_of, or_nothing, told_by, verb_told};
+ghost use Rattle.script_run.specs.Turns.{LastsFor, event_of, or_nothing, told_by, told_of_step, verb_told};
 ghost use Rattle.script_run.specs.Written.{Writes};
 ghost use Rattle.verb_history.specs.Moments.{moment_of};
 ghost use Rattle.script_text.specs.OutputText.{line_text, text_of};
 
 use crate::line_writing::{write_refusal, write_took};
-use crate::shown::{shown_verb, subject_of, told_by};
+use crate::shown::{shown_verb, subject_of, told_by, told_of_step};
 use crate::writing::{Unwritten, write_line};
+use kv_ops::Step;
 use outside::Sink;
 use script_text::OutLine;
 use std::alloc::Global;
 use verb_history::Moment;
-use world_core::{Event, Happened, Refused, Seen, World};
+use world_core::{Event, Happened, Seen, World};
 
 /// Who takes the verbs of a line.
 #[derive(Clone, Copy, Debug, PartialEq, Eq)]
@@ -124,6 +126,71 @@ fn take_one<K: Sink>(
     ensures later { K.faults sink.old ≤ K.faults sink.new }
     ensures steady { IsSteady K.cannot_fail K.faults sink.old sink.new }
 {
+    match taker {
+        Taker::Client(client) if !shows => take_unshown(alloc, client, world, sink),
+        _ => take_event(alloc, shows, taker, world, sink),
+    }
+}
+
+// Takes a client's verb that is not to be written.
+fn take_unshown<K: Sink>(
+    alloc: Global,
+    client: u32,
+    world: &mut World,
+    sink: &mut K,
+) -> Result<bool, Unwritten>
+    requires room { world.old.events < 2 ^ 63 }
+    requires lawful { refusal world.old (event.Step client) ≡ None }
+    ensures written { Writes K.held K.faults sink.old sink.new result
+        (text_of (verb_told false world.old (event.Step client))) }
+    ensures ends { IfOk result (λ ends. ends
+        ≡ is_some (told_line world.old (comes_to world.old (event.Step client)))) }
+    ensures world { OnOk result (world.new ≡ happens world.old (event.Step client)) }
+    ensures later { K.faults sink.old ≤ K.faults sink.new }
+    ensures steady { IsSteady K.cannot_fail K.faults sink.old sink.new }
+{
+    match world.step(client) {
+        Ok(Step::Going) => Ok(false),
+        Ok(step) => write_step(alloc, client, step, world.moments(), sink),
+        Err(_) => Err(Unwritten::NoMemory),
+    }
+}
+
+// Writes what a client's verb has told, and answers whether that is anything.
+fn write_step<K: Sink>(
+    alloc: Global,
+    client: u32,
+    step: Step,
+    moments: &[Moment],
+    sink: &mut K,
+) -> Result<bool, Unwritten>
+    ensures written { Writes K.held K.faults sink.old sink.new result
+        (text_of (or_nothing (told_of_step client step (map moment_of moments.now)))) }
+    ensures told { IfOk result (λ is_told. is_told ≡ is_some (told_of_step client step (map moment_of moments.now))) }
+    ensures later { K.faults sink.old ≤ K.faults sink.new }
+    ensures steady { IsSteady K.cannot_fail K.faults sink.old sink.new }
+{
+    let told = told_of_step(alloc, client, step, moments)?;
+    write_told(alloc, told, sink)
+}
+
+// Takes a verb as an event of the world.
+fn take_event<K: Sink>(
+    alloc: Global,
+    shows: bool,
+    taker: Taker,
+    world: &mut World,
+    sink: &mut K,
+) -> Result<bool, Unwritten>
+    requires room { world.old.events < 2 ^ 63 }
+    requires lawful { refusal world.old (event_of taker) ≡ None }
+    ensures written { Writes K.held K.faults sink.old sink.new result
+        (text_of (verb_told shows world.old (event_of taker))) }
+    ensures ends { IfOk result (λ ends. ends ≡ is_some (told_line world.old (comes_to world.old (event_of taker)))) }
+    ensures world { OnOk result (world.new ≡ happens world.old (event_of taker)) }
+    ensures later { K.faults sink.old ≤ K.faults sink.new }
+    ensures steady { IsSteady K.cannot_fail K.faults sink.old sink.new }
+{
     let subject = subject_of(world.task());
     match advance(taker.event(), world) {
         Ok(happened) => write_turn(alloc, shows, subject, happened, world.moments(), sink),
@@ -139,10 +206,9 @@ pub(crate) fn advance(event: Event, world: &mut World) -> Result<Happened, Unwri
     ensures world { OnOk result (world.new ≡ happens world.old event) }
     ensures memory { IfErr result (λ why. why ≡ Unwritten.NoMemory) }
 {
-    match world.advance(event) {
+    match world.carry_out(event) {
         Ok(happened) => Ok(happened),
-        Err(Refused::NoMemory) => Err(Unwritten::NoMemory),
-        Err(_) => unreachable!(),
+        Err(_) => Err(Unwritten::NoMemory),
     }
 }
 

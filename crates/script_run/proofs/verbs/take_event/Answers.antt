@@ -5,7 +5,7 @@ use Rattle.script_run.specs.Written.{Writes}
 use Rattle.script_text.specs.OutputText.{text_of}
 use Rattle.verb_history.specs.Moments.{moment_of}
 use Rattle.script_run.proofs.TurnLemmas.{turn-lines, turn-told}
-use Rattle.script_run.proofs.verbs.take_one.Goals as goal
+use Rattle.script_run.proofs.verbs.take_event.Goals as goal
 
 pub returns-in-Ok-clause-written : goal.returns-in-Ok-clause-written
 returns-in-Ok-clause-written g c =
