@@ -15,6 +15,7 @@ use Rattle.machine.proofs.ObjectNamesLemmas.{object_in-is, object_in-pointer, ob
 use Rattle.machine.proofs.ValueReadLemmas.{next-inside, value_read_of-is}
 use Rattle.object_form.proofs.ClassLemmas.{units_of-bounds}
 use Rattle.object_form.proofs.ContentLemmas.{bytes_of_words-append, from_le_bytes-same, length-padded_words}
+use Rattle.object_form.specs.declared.classes.TheConstants.{OBJECT_WORDS}
 use Rattle.object_form.specs.Class.{room_of, words_for}
 use Rattle.object_form.specs.Content.{bytes_of_words, padded_words, word_from}
 use Rattle.region_view.specs.Layout.{HasWord}
@@ -70,11 +71,23 @@ named_word-has sizes word key_len value_len has =
 room_of-most : (class : ℕ) → class < 6 → room_of class ≤ 256
 room_of-most class below = omega (arith, units_of-bounds class below)
 
+-- a key that an object has room for is no longer than one
+pub key-room : (sizes : Sizes) (word key_len value_len : ℕ) → HasRoom sizes word key_len value_len → words_for key_len ≤ OBJECT_WORDS
+key-room sizes word key_len value_len has =
+    omega (arith, has.room, room_of-most has.object.class (object_in-is sizes word has.object has.named).class)
+
+-- the words behind the key's are those of the value
+pub behind-key : (view : Viewed) (pointer key_words : ℕ) (object : Place) → ((i : ℕ) → primary_place view (object_word pointer i) ≡ record { node = object.node; at = object.at + i })
+    → (i : ℕ) → primary_place view (object_word pointer (4 + key_words + i)) ≡ record { node = object.node; at = object.at + 4 + key_words + i }
+behind-key view pointer key_words object places i =
+    let same : object.at + (4 + key_words + i) ≡ object.at + 4 + key_words + i = omega arith in
+    places (4 + key_words + i) ∙ ap (λ (at : ℕ). record { node = object.node; at = at }) same
+
 -- a reading at its beginning
-pub begun-held : (view : Viewed) (word key_len value_len : ℕ) (object : Place) → IsView view → HasRoom view.shape word key_len value_len → 1 ≤ value_len
-    → ((i : ℕ) → primary_place view (object_word (pointer_in word) i) ≡ record { node = object.node; at = object.at + i }) → object.at < 2 ^ 21
-    → IsHeld (value_read_of view (pointer_in word) key_len value_len) [] (record { node = object.node; at = object.at + 4 + words_for key_len })
-begun-held view word key_len value_len object is has some places below =
+pub begun-held : (view : Viewed) (word key_len value_len : ℕ) (first : Place) → IsView view → HasRoom view.shape word key_len value_len → 1 ≤ value_len
+    → ((i : ℕ) → primary_place view (object_word (pointer_in word) (4 + words_for key_len + i)) ≡ record { node = first.node; at = first.at + i }) → first.at < 2 ^ 22
+    → IsHeld (value_read_of view (pointer_in word) key_len value_len) [] first
+begun-held view word key_len value_len first is has some places below =
     let named = object_in-is view.shape word has.object has.named in
     let P : ℕ → Type 0 = λ pointer. IsObject view.shape (record { pointer = pointer; class = has.object.class }) in
     let most = room_of-most has.object.class named.class in
@@ -83,10 +96,8 @@ begun-held view word key_len value_len object is has some places below =
       filled = refl;
       long = refl;
       most = omega (arith, has.room);
-      places = λ i.
-          let same : object.at + (4 + words_for key_len + i) ≡ object.at + 4 + words_for key_len + i = omega arith in
-          places (4 + words_for key_len + i) ∙ ap (λ (at : ℕ). record { node = object.node; at = at }) same;
-      below = omega (arith, has.room);
+      places = places;
+      below = below;
     }
 
 -- one more word was read

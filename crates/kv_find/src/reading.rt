@@ -1,13 +1,15 @@
-ghost use Rattle.std.specs.Prelude.{◌≡◌, ◌≢◌, ◌↔◌, ◌++◌, ◌+◌, ℕ, ◌<◌, ◌≤◌, length};
+ghost use Rattle.std.specs.Prelude.{◌≡◌, ◌≢◌, ◌↔◌, ◌++◌, ◌+◌, ◌^◌, ℕ, ◌<◌, ◌≤◌, length};
 ghost use Rattle.std.specs.Int.{w64, to_le_bytes};
 ghost use Rattle.arrayvec.specs.ArrayVec.{array_vec_len};
 ghost use Rattle.kv_find.specs.Readings.{HasRoom};
 ghost use Rattle.kv_find.specs.declared.reading.TheConstants.{MOST_BYTES};
 ghost use Rattle.machine.specs.ObjectNames.{pointer_in};
-ghost use Rattle.machine.specs.Places.{IsInPool};
+ghost use Rattle.machine.specs.Places.{IsInPool, object_word, primary_place};
 ghost use Rattle.machine.specs.ValueRead.{bytes_of, next, turn, value_read_of};
 ghost use Rattle.machine.specs.declared.value_read.Fetched.TheVariants.{Going, Refused};
 ghost use Rattle.object_form.specs.Class.{words_for};
+ghost use Rattle.object_form.specs.declared.classes.TheConstants.{OBJECT_WORDS};
+ghost use Rattle.region_view.specs.Layout.{HasWord};
 ghost use Rattle.verb_words.specs.Verb.{place_of};
 ghost use Rattle.verb_words.specs.declared.verbs.Answer.TheVariants.{Word, Lost};
 
@@ -54,21 +56,50 @@ pub fn value(view: View, word: u64, key_len: u32, value_len: u32) -> ReadValue
     ensures { result ≡ value_read_of view (pointer_in word) key_len value_len }
 {
     let pointer = (word % (1 << 28)) as u32;
-    let object = object_place(&view, pointer);
+    let first = first_place(&view, pointer, key_len);
     ReadValue {
         view,
         pointer,
         key_len,
         value_len,
-        first: Place {
-            node: object.node,
-            at: object.at + 4 + key_len.div_ceil(8),
-        },
+        first,
         bytes: ArrayVec::new(),
     }
 }
 
+// The place of an object's first word behind its own four and its key's, on the primary. The words
+// after it stand behind it.
+fn first_place(view: &View, pointer: u32, key_len: u32) -> Place
+    requires pointer { pointer < 2 ^ 28 }
+    requires object { HasWord view.now.shape (object_word pointer 0) }
+    requires key { words_for key_len ≤ OBJECT_WORDS }
+    ensures words { (i : ℕ) → primary_place view.now (object_word pointer (4 + words_for key_len + i))
+        ≡ record { node = result.node; at = result.at + i } }
+    ensures below { result.at < 2 ^ 22 }
+{
+    let object = object_place(view, pointer);
+    Place {
+        node: object.node,
+        at: object.at + 4 + key_len.div_ceil(8),
+    }
+}
+
 impl ReadValue {
+    /// Begins anew, in the same memory, as the reading that `value` makes.
+    pub fn begin(&mut self, view: View, word: u64, key_len: u32, value_len: u32)
+        requires object { HasRoom view.shape word key_len value_len }
+        requires some { 1 ≤ value_len }
+        ensures { self.new ≡ value_read_of view (pointer_in word) key_len value_len }
+    {
+        let pointer = (word % (1 << 28)) as u32;
+        self.first = first_place(&view, pointer, key_len);
+        self.view = view;
+        self.pointer = pointer;
+        self.key_len = key_len;
+        self.value_len = value_len;
+        self.bytes.clear();
+    }
+
     /// The verb that is due, while a word is still to be read.
     pub fn next(&self) -> Verb
         requires { length self.now.words < words_for self.now.value_len }

@@ -126,5 +126,7 @@ fn a_value_of_three_words(rt: HostRuntime) -> Result<(), Fail> {
     let mut reading = value(view, FIRST, 1, 17);
     assert_eq!(rt; read(&rt, &mut nodes, &mut reading), (Fetched::Whole, 3));
     assert_eq!(rt; reading.bytes(), b"seventeen letters".as_slice());
+    reading.begin(view, FIRST, 1, 17);
+    assert_eq!(rt; reading.bytes(), b"".as_slice());
     Ok(())
 }

@@ -76,11 +76,11 @@ abbrev pub reads_own : Client → Answer → Bool
 reads_own client (Word word) = word == fresh_of client
 reads_own client answer = false
 
--- Which verbs a stage takes: of the searches, of the object, of the slot, or of the client's own words alone.
+-- Which verbs a stage takes, but for a value's reading and an object's writing: of the searches, of the object, of the
+-- slot, or of the client's own words alone.
 
 abbrev pub IsSearch : Stage → Type 0
 IsSearch (Seek key_search) = Unit {0}
-IsSearch (Fetch value_read) = Unit {0}
 IsSearch (Find key_search) = Unit {0}
 IsSearch (ReadVersion word) = Unit {0}
 IsSearch stage = ⊥
@@ -88,7 +88,6 @@ IsSearch stage = ⊥
 abbrev pub IsOfObject : Stage → Type 0
 IsOfObject Choose = Unit {0}
 IsOfObject (Clear change) = Unit {0}
-IsOfObject (Body write) = Unit {0}
 IsOfObject (Log write) = Unit {0}
 IsOfObject (Free change) = Unit {0}
 IsOfObject (Return change) = Unit {0}

@@ -57,6 +57,8 @@ impl Actor {
                 client,
                 number: 0,
                 stage: Stage::Idle,
+                reading: None,
+                body: None,
                 operation: Operation::Get,
                 key: ArrayVec::new(),
                 value: ArrayVec::new(),

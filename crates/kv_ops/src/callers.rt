@@ -7,6 +7,8 @@ use crate::calls::Operation;
 use crate::remembered::Remembered;
 use crate::stages::Stage;
 use arrayvec::ArrayVec;
+use kv_find::ReadValue;
+use kv_write::ObjectWrite;
 use machine::client_call::Outcome;
 use object_alloc::Stock;
 use object_form::LONGEST;
@@ -23,6 +25,10 @@ pub(crate) struct Caller {
     /// The number of the call.
     pub(crate) number: u32,
     pub(crate) stage: Stage,
+    /// The present or last reading of a value, which the next one takes the place of.
+    pub(crate) reading: Option<ReadValue>,
+    /// The present or last writing of an object, which the next one takes the place of.
+    pub(crate) body: Option<ObjectWrite>,
     pub(crate) operation: Operation,
     pub(crate) key: ArrayVec<u8, 64>,
     pub(crate) value: ArrayVec<u8, LONGEST>,

@@ -22,6 +22,8 @@ impl Caller {
     {
         match &self.stage {
             Stage::Idle => true,
+            Stage::Fetch => self.reading.is_none(),
+            Stage::Body => self.body.is_none(),
             Stage::WriteSlot { awaits: true, .. } => false,
             Stage::WriteSlot { awaits: false, .. } => false,
             _ => false,

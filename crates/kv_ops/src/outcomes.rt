@@ -1,9 +1,10 @@
 ghost use Rattle.std.specs.Prelude.{◌≡◌, ◌<◌, ◌%◌, ◌^◌, ◌==◌, true, length};
 ghost use Rattle.kv_find.specs.Readings.{HasRoom};
 ghost use Rattle.kv_ops.specs.Callers.{client_of, turn_of};
+ghost use Rattle.kv_ops.specs.Stages.{kept_as};
 ghost use Rattle.kv_ops.specs.Standings.{IsApart, IsOfClass, IsReadyUnder, OwnsObject, OwnsPlace};
 ghost use Rattle.machine.specs.Choosing.{IsTaken};
-ghost use Rattle.machine.specs.Client.{absent, chooses, chooses_for, cleared, ends, fetches, finds_on, fresh_of, gives_back, goes_to, is_beaten, kind_of, link_of, logs, on_changed, on_kind, on_took, refused, remembers, resolution_for, search_of, slot_of, view_of, won, write_body};
+ghost use Rattle.machine.specs.Client.{absent, chooses, chooses_for, cleared, ends, fetches, finds_on, fresh_of, gives_back, goes_to, is_beaten, kept_of, kind_of, link_of, logs, on_changed, on_kind, on_took, refused, remembers, resolution_for, search_of, slot_of, view_of, won, write_body};
 ghost use Rattle.machine.specs.EpochRead.{IsView};
 ghost use Rattle.machine.specs.ObjectNames.{names_object};
 ghost use Rattle.machine.specs.SlotWrite.{slot_write_of};
@@ -14,7 +15,7 @@ ghost use Rattle.slot_order.specs.Slots.{order_of};
 
 use crate::callers::Caller;
 use crate::calls::Operation;
-use crate::stages::Stage;
+use crate::stages::{Kept, Stage};
 use key_test::{KeyTest, candidate_in, object_in};
 use kv_find::{Find, Found, value};
 use kv_write::{body, log, resolving};
@@ -125,9 +126,44 @@ impl Caller {
     {
         self.stage = Stage::LostNode {
             node,
-            kept: self.stage.kept(),
+            kept: self.kept(),
         };
         Step::NotYet(Why::Lost(node))
+    }
+
+    // What is kept of the present stage where a lost node interrupts it.
+    fn kept(&self) -> Kept
+        ensures { kept_as result ≡ kept_of (client_of self.now).stage }
+    {
+        match &self.stage {
+            Stage::Seek(_) => Kept::Seek,
+            Stage::Fetch => match &self.reading {
+                Some(_) => Kept::Seek,
+                None => Kept::Start,
+            },
+            Stage::Choose => Kept::Choose,
+            Stage::Clear(_) => Kept::Clear,
+            Stage::Body => match &self.body {
+                Some(_) => Kept::Body,
+                None => Kept::Start,
+            },
+            Stage::Find(_) => Kept::Find,
+            Stage::ReadVersion(_) => Kept::Find,
+            Stage::Log(_) => Kept::Resolve,
+            Stage::WriteSlot { awaits: false, .. } => Kept::Resolve,
+            Stage::WriteSlot { awaits: true, .. } => Kept::Resolve,
+            Stage::TestKey(_) => Kept::Resolve,
+            Stage::Resolve(_) => Kept::Resolve,
+            Stage::Free(_) => Kept::Free,
+            Stage::Return(_) => Kept::Return,
+            Stage::Idle => Kept::Start,
+            Stage::Start => Kept::Start,
+            Stage::ReadEpoch => Kept::Start,
+            Stage::Pause { .. } => Kept::Start,
+            Stage::Paused { .. } => Kept::Start,
+            Stage::LostNode { .. } => Kept::Start,
+            Stage::End => Kept::Start,
+        }
     }
 
     pub(crate) fn remember(&mut self, place: usize)
@@ -218,14 +254,13 @@ impl Caller {
         requires class { IsOfClass (client_of self.old) }
         ensures { turn_of self.new result ≡ goes_to (client_of self.old) (stage.Body (write_body (client_of self.old))) }
     {
-        self.stage = Stage::Body(body(
-            self.view(),
-            self.object,
-            self.link(),
-            self.kind(),
-            self.key.as_slice(),
-            self.value.as_slice(),
-        ));
+        let (view, link, kind) = (self.view(), self.link(), self.kind());
+        let (key, value) = (self.key.as_slice(), self.value.as_slice());
+        match &mut self.body {
+            Some(write) => write.begin(view, self.object, link, kind, key, value),
+            None => self.body = Some(body(view, self.object, link, kind, key, value)),
+        }
+        self.stage = Stage::Body;
         Step::Going
     }
 }
@@ -336,7 +371,12 @@ impl Caller {
             self.fetched.clear();
             return self.ends(Outcome::Value);
         }
-        self.stage = Stage::Fetch(value(self.view(), word, self.key.len() as u32, value_len));
+        let (view, key_len) = (self.view(), self.key.len() as u32);
+        match &mut self.reading {
+            Some(reading) => reading.begin(view, word, key_len, value_len),
+            None => self.reading = Some(value(view, word, key_len, value_len)),
+        }
+        self.stage = Stage::Fetch;
         Step::Going
     }
 }

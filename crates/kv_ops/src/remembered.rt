@@ -16,12 +16,14 @@ pub(crate) struct Remembered {
 
 impl Model for Remembered {
     ghost use Rattle.std.specs.Prelude.{List};
-    ghost use Rattle.kv_ops.specs.Places.{pairs_of};
+    ghost use Rattle.kv_ops.specs.Places.{IsNewestAlone, pairs_of};
     ghost use Rattle.machine.specs.Remembered.{Pair};
 
     ghost Value = { List Pair };
 
     ghost view = { λ r. pairs_of r.pairs.items };
+
+    ghost invariant = { λ r. IsNewestAlone (pairs_of r.pairs.items) };
 }
 
 impl Remembered {
@@ -47,11 +49,15 @@ impl Remembered {
     }
 
     /// Remembers a place for the key, in place of an older one; the oldest pair goes where there are
-    /// too many.
+    /// too many. No pair moves where the key is that of the newest.
     pub(crate) fn remember(&mut self, key: &[u8], place: usize)
         requires { length key.now ≤ 64 }
         ensures { self.new ≡ with_place self.old key.now place }
     {
+        if !self.pairs.is_empty() && self.pairs[0].0.as_slice() == key {
+            self.pairs[0].1 = place;
+            return;
+        }
         self.pairs.retain(|pair| pair.0.as_slice() != key);
         self.pairs.truncate(MOST_PLACES - 1);
         self.pairs.insert(0, (key_bytes(key), place));

@@ -1,10 +1,6 @@
-ghost use Rattle.std.specs.Prelude.{◌≡◌};
-ghost use Rattle.kv_ops.specs.Stages.{kept_as, stage_of};
-ghost use Rattle.machine.specs.Client.{kept_of};
-
 use key_test::KeyTest;
-use kv_find::{Find, ReadValue};
-use kv_write::{LogWrite, ObjectWrite, Resolve};
+use kv_find::Find;
+use kv_write::{LogWrite, Resolve};
 use object_alloc::BitChange;
 use snapshot_write::SlotWrite;
 
@@ -31,7 +27,8 @@ pub(crate) enum Kept {
     Return,
 }
 
-/// What a client does next.
+/// What a client does next. The reading of a value and the writing of an object stand beside it, since
+/// they are large; without one of them its stage is no other than `Idle`.
 #[derive(Drop)]
 pub(crate) enum Stage {
     /// Nothing: it is between calls.
@@ -48,14 +45,14 @@ pub(crate) enum Stage {
     LostNode { node: u32, kept: Kept },
     /// Looks for the key of a get or of a delete.
     Seek(Find),
-    /// Reads the value.
-    Fetch(ReadValue),
+    /// Goes on with the reading of the value.
+    Fetch,
     /// Chooses an object.
     Choose,
     /// Clears the object's bit.
     Clear(BitChange),
-    /// Writes the object and its link.
-    Body(ObjectWrite),
+    /// Goes on with the writing of the object and its link.
+    Body,
     /// Looks for the slot to write.
     Find(Find),
     /// Reads the version of the object that this slot word names.
@@ -74,35 +71,4 @@ pub(crate) enum Stage {
     Return(BitChange),
     /// Writes its begin word even.
     End,
-}
-
-impl Stage {
-    /// What is kept of a stage that a lost node interrupts.
-    pub(crate) fn kept(&self) -> Kept
-        ensures { kept_as result ≡ kept_of (stage_of self.now) }
-    {
-        match self {
-            Stage::Seek(_) => Kept::Seek,
-            Stage::Fetch(_) => Kept::Seek,
-            Stage::Choose => Kept::Choose,
-            Stage::Clear(_) => Kept::Clear,
-            Stage::Body(_) => Kept::Body,
-            Stage::Find(_) => Kept::Find,
-            Stage::ReadVersion(_) => Kept::Find,
-            Stage::Log(_) => Kept::Resolve,
-            Stage::WriteSlot { awaits: false, .. } => Kept::Resolve,
-            Stage::WriteSlot { awaits: true, .. } => Kept::Resolve,
-            Stage::TestKey(_) => Kept::Resolve,
-            Stage::Resolve(_) => Kept::Resolve,
-            Stage::Free(_) => Kept::Free,
-            Stage::Return(_) => Kept::Return,
-            Stage::Idle => Kept::Start,
-            Stage::Start => Kept::Start,
-            Stage::ReadEpoch => Kept::Start,
-            Stage::Pause { .. } => Kept::Start,
-            Stage::Paused { .. } => Kept::Start,
-            Stage::LostNode { .. } => Kept::Start,
-            Stage::End => Kept::Start,
-        }
-    }
 }

@@ -1,6 +1,7 @@
 ghost use Rattle.std.specs.Prelude.{◌≡◌, Some};
 ghost use Rattle.kv_ops.specs.Callers.{client_of, turn_of};
 ghost use Rattle.kv_ops.specs.Standings.{IsControl, IsHeld, IsOfObject, IsOfSlot, IsReadyUnder, IsSearch, OwnsObject, OwnsPlace, reads_own};
+ghost use Rattle.kv_ops.specs.declared.stages.Stage.TheVariants.{Body, Fetch};
 ghost use Rattle.machine.specs.Client.{begin_place, finds_at, next, on_find, on_version, slot_of, stays, turn, turn_at, view_of};
 ghost use Rattle.machine.specs.EpochRead.{IsView};
 ghost use Rattle.machine.specs.KeySearch.{KeySearch};
@@ -45,10 +46,16 @@ impl Caller {
             ),
             Stage::Pause { word, .. } => Verb::Write(self.pause_place(), *word),
             Stage::Seek(find) => find.next(),
-            Stage::Fetch(reading) => reading.next(),
+            Stage::Fetch => match &self.reading {
+                Some(reading) => reading.next(),
+                None => Verb::Read(EPOCH),
+            },
             Stage::Choose => self.stock.next(),
             Stage::Clear(change) => change.next(),
-            Stage::Body(write) => write.next(),
+            Stage::Body => match &self.body {
+                Some(write) => write.next(),
+                None => Verb::Read(EPOCH),
+            },
             Stage::Find(find) => find.next(),
             Stage::ReadVersion(word) => Verb::Read(self.version_place(*word)),
             Stage::Log(write) => write.next(),
@@ -106,12 +113,12 @@ impl Caller {
     {
         match &self.stage {
             Stage::Seek(_) => self.after_search(answer),
-            Stage::Fetch(_) => self.after_search(answer),
+            Stage::Fetch => self.after_fetch(answer),
             Stage::Find(_) => self.after_search(answer),
             Stage::ReadVersion(_) => self.after_search(answer),
             Stage::Choose => self.after_object(answer),
             Stage::Clear(_) => self.after_object(answer),
-            Stage::Body(_) => self.after_object(answer),
+            Stage::Body => self.after_body(answer),
             Stage::Log(_) => self.after_object(answer),
             Stage::Free(_) => self.after_object(answer),
             Stage::Return(_) => self.after_object(answer),
@@ -151,22 +158,32 @@ impl Caller {
                 Found::Nowhere => self.absent(),
                 Found::Refused(node) => self.refused(node),
             },
-            Stage::Fetch(reading) => match reading.after(answer) {
-                Fetched::Going => Step::Going,
-                Fetched::Whole => {
-                    self.fetched.clear();
-                    let pushed = self.fetched.try_extend_from_slice(reading.bytes());
-                    prove!(pushed.is_ok());
-                    self.ends(Outcome::Value)
-                }
-                Fetched::Refused(node) => self.refused(node),
-            },
             Stage::Find(_) => self.after_find(answer),
             Stage::ReadVersion(word) => {
                 let word = *word;
                 self.after_version(word, answer)
             }
             _ => Step::Going,
+        }
+    }
+
+    fn after_fetch(&mut self, answer: Answer) -> Step
+        requires held { IsHeld (client_of self.old) }
+        requires fetch { self.old.stage ≡ Fetch }
+        ensures { turn_of self.new result ≡ turn (client_of self.old) answer }
+    {
+        let Some(reading) = &mut self.reading else {
+            return Step::Going;
+        };
+        match reading.after(answer) {
+            Fetched::Going => Step::Going,
+            Fetched::Whole => {
+                self.fetched.clear();
+                let pushed = self.fetched.try_extend_from_slice(reading.bytes());
+                prove!(pushed.is_ok());
+                self.ends(Outcome::Value)
+            }
+            Fetched::Refused(node) => self.refused(node),
         }
     }
 
@@ -264,11 +281,6 @@ impl Caller {
                 Changed::Whole => self.cleared(),
                 Changed::Refused(node) => self.refused(node),
             },
-            Stage::Body(write) => match write.after(answer) {
-                Written::Going => Step::Going,
-                Written::Whole => self.finds(),
-                Written::Refused(node) => self.refused(node),
-            },
             Stage::Log(write) => match write.after(answer) {
                 Written::Going => Step::Going,
                 Written::Whole => self.writes_slot(),
@@ -285,6 +297,21 @@ impl Caller {
                 Changed::Refused(node) => self.refused(node),
             },
             _ => Step::Going,
+        }
+    }
+
+    fn after_body(&mut self, answer: Answer) -> Step
+        requires held { IsHeld (client_of self.old) }
+        requires body { self.old.stage ≡ Body }
+        ensures { turn_of self.new result ≡ turn (client_of self.old) answer }
+    {
+        let Some(write) = &mut self.body else {
+            return Step::Going;
+        };
+        match write.after(answer) {
+            Written::Going => Step::Going,
+            Written::Whole => self.finds(),
+            Written::Refused(node) => self.refused(node),
         }
     }
 

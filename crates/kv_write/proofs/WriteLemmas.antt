@@ -7,7 +7,7 @@ use Rattle.std.proofs.Math.Seq.{get_or-append_seam}
 use Rattle.std.proofs.lemmas.Bool.{cases_lt}
 use Rattle.std.proofs.lemmas.List.FromFn.{get_or-enumerate_from, length-enumerate_from, length-map-range_with_len}
 use Rattle.kv_write.specs.Courses.{course_of}
-use Rattle.kv_write.specs.Writes.{IsObjectWrite, object_write_of, pieces_of}
+use Rattle.kv_write.specs.Writes.{IsObjectWrite, content_of, object_write_of, pieces_of}
 use Rattle.machine.specs.EpochRead.{IsView}
 use Rattle.machine.specs.ObjectNames.{IsObject, names_object}
 use Rattle.machine.specs.Places.{object_word}
@@ -20,6 +20,7 @@ use Rattle.object_form.proofs.ClassLemmas.{words_of-bounds}
 use Rattle.object_form.specs.Class.{IsKeyLength, class_in, room_of, words_for, words_of}
 use Rattle.object_form.specs.Content.{padded_words, word_from}
 use Rattle.object_form.specs.declared.classes.TheConstants.{CLASSES, LONGEST, OBJECT_WORDS}
+use Rattle.object_form.specs.declared.metas.Kind.{Kind}
 use Rattle.region_view.specs.Layout.{HasWord}
 use Rattle.region_view.specs.Placed.{Viewed}
 use Rattle.region_view.specs.Sizes.{Sizes}
@@ -79,7 +80,7 @@ first-has sizes class pointer is = object_word-has sizes (record { pointer = poi
 pub pointer-low : (sizes : Sizes) (class pointer : ℕ) → IsObject sizes (record { pointer = pointer; class = class }) → pointer < 2 ^ 28
 pointer-low sizes class pointer is = (names_object-says sizes class pointer is.named).below
 
-pub begun-object : (view : Viewed) (class pointer : ℕ) (content : List ℕ) (link : ℕ) → IsView view → IsObject view.shape (record { pointer = pointer; class = class }) → length content + 1 ≤ room_of class
+begun-object : (view : Viewed) (class pointer : ℕ) (content : List ℕ) (link : ℕ) → IsView view → IsObject view.shape (record { pointer = pointer; class = class }) → length content + 1 ≤ room_of class
     → IsObjectWrite (object_write_of (course_of view pointer) content link) content
 begun-object view class pointer content link is named room = record {
   state = words_write_of-is view pointer class (pieces_of content link) is named (omega (arith, length-pieces_of content link)) (pieces_of-room content link (room_of class) (omega arith));
@@ -105,9 +106,12 @@ content-room front with_key key value three is key_len value_len =
     let words = words_of-bounds (length key) (length value) key_len value_len in
     omega (arith, words.1, length-append front (padded_words key), length-padded_words key)
 
-pub content-length : (front with_key content : List ℕ) (key value : List ℕ) → length front ≡ 3 → with_key ≡ front ++ padded_words key → content ≡ with_key ++ padded_words value
-    → length content + 1 ≡ words_of (length key) (length value)
-content-length front with_key content key value three first second =
-    let long = ap length first in
-    let longer = ap length second in
-    omega (arith, length-append front (padded_words key), length-append with_key (padded_words value), length-padded_words key, length-padded_words value)
+content-length : (kind : Kind) (key value : List ℕ) → length (content_of kind key value) + 1 ≡ words_of (length key) (length value)
+content-length kind key value =
+    omega (arith, length-append (padded_words key) (padded_words value), length-padded_words key, length-padded_words value)
+
+pub begun-body : (view : Viewed) (pointer : ℕ) (kind : Kind) (key value : List ℕ) (link : ℕ) → IsView view → IsKeyLength (length key) → length value ≤ LONGEST
+    → names_object view.shape (class_in (length key) (length value)) pointer ≡ true → IsObjectWrite (object_write_of (course_of view pointer) (content_of kind key value) link) (content_of kind key value)
+begun-body view pointer kind key value link is key_len value_len named =
+    let of_class = for_lengths view.shape (length key) (length value) pointer key_len value_len named in
+    begun-object view (class_in (length key) (length value)) pointer (content_of kind key value) link is of_class.0 (omega (arith, of_class.1, content-length kind key value))

@@ -6,7 +6,16 @@ use Rattle.kv_write.specs.Courses.{Course, write_on}
 use Rattle.machine.specs.ObjectNames.{IsObject}
 use Rattle.machine.specs.Places.{object_word, replica_count}
 use Rattle.object_form.specs.declared.classes.TheConstants.{OBJECT_WORDS}
+use Rattle.object_form.specs.declared.metas.Kind.{Kind}
+use Rattle.object_form.specs.Content.{padded_words}
+use Rattle.object_form.specs.Meta.{word_of_meta}
 use Rattle.region_view.specs.Sizes.{Sizes}
+
+-- the words of an object from word 1 on
+abbrev pub content_of : Kind → List ℕ → List ℕ → List ℕ
+content_of kind key value =
+    word_of_meta (record { kind = kind; key_len = length key; value_len = length value })
+    ∷ 0 ∷ 0 ∷ (padded_words key ++ padded_words value)
 
 -- an object's words from word 1 on, and then its link
 abbrev pub pieces_of : List ℕ → ℕ → List Piece

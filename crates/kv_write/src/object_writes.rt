@@ -1,5 +1,5 @@
 ghost use Rattle.std.specs.Prelude.{◌≡◌, ◌↔◌, ℕ, ◌+◌, ◌<◌, ◌≤◌, [], ◌∷◌, true, length};
-ghost use Rattle.kv_write.specs.Writes.{IsLast, IsObjectPointer};
+ghost use Rattle.kv_write.specs.Writes.{IsLast, IsObjectPointer, content_of};
 ghost use Rattle.machine.specs.ObjectNames.{names_object};
 ghost use Rattle.machine.specs.Places.{IsInPool};
 ghost use Rattle.machine.specs.WordsWrite.{body_of, log_of, next, present_piece, turn, words_write_of};
@@ -58,15 +58,7 @@ pub fn body(
     ensures { result ≡ words_write_of view object (body_of kind key.now value.now link) }
 {
     let mut content = ArrayVec::new();
-    content.push(meta_word(Meta {
-        kind,
-        key_len: key.len() as u32,
-        value_len: value.len() as u32,
-    }));
-    content.push(0);
-    content.push(0);
-    padded(key, &mut content);
-    padded(value, &mut content);
+    fill(&mut content, kind, key, value);
     ObjectWrite {
         course: Course::new(view, object),
         content,
@@ -74,7 +66,46 @@ pub fn body(
     }
 }
 
+// Puts the words of an object from word 1 on in place of others.
+fn fill(content: &mut ArrayVec<u64, OBJECT_WORDS>, kind: Kind, key: &[u8], value: &[u8])
+    requires key { IsKeyLength (length key.now) }
+    requires value { length value.now ≤ LONGEST }
+    ensures { content.new.items ≡ content_of kind key.now value.now }
+{
+    content.clear();
+    content.push(meta_word(Meta {
+        kind,
+        key_len: key.len() as u32,
+        value_len: value.len() as u32,
+    }));
+    content.push(0);
+    content.push(0);
+    padded(key, content);
+    padded(value, content);
+}
+
 impl ObjectWrite {
+    /// Begins anew, in the same memory, as the writing that `body` makes.
+    pub fn begin(
+        &mut self,
+        view: View,
+        object: u32,
+        link: Link,
+        kind: Kind,
+        key: &[u8],
+        value: &[u8],
+    )
+        requires key { IsKeyLength (length key.now) }
+        requires value { length value.now ≤ LONGEST }
+        requires object { names_object view.shape
+            (class_in (length key.now) (length value.now)) object ≡ true }
+        ensures { self.new ≡ words_write_of view object (body_of kind key.now value.now link) }
+    {
+        self.course = Course::new(view, object);
+        fill(&mut self.content, kind, key, value);
+        self.link = link_word(link);
+    }
+
     /// The verb that is due.
     pub fn next(&self) -> Verb
         ensures verb { result ≡ next self.now }

@@ -153,6 +153,11 @@ fn writings_on_two_replicas(rt: HostRuntime) -> Result<(), Fail> {
         assert_eq!(rt; run_log(&rt, &mut nodes, &mut erased).0, *log_told);
         assert_eq!(rt; word(&nodes, 1, 178), 0);
         assert_eq!(rt; word(&nodes, 2, 178), 0);
+        written.begin(view, 0x10_0010, link, Kind::Value, b"abcdefghi", b"xyz");
+        assert_eq!(rt;
+            run_object(&rt, &mut nodes, &mut written),
+            (*body_told, *body_verbs)
+        );
     }
     Ok(())
 }

@@ -1,5 +1,6 @@
 use Rattle.std.proofs.Common.{inl, inr, refl, sym, ap, ◌∙◌, ◌≡◌}
 use Rattle.kv_ops.specs.Callers.{client_of, turn_of}
+use Rattle.kv_ops.specs.declared.stages.Stage.{Stage}
 use Rattle.kv_ops.specs.Stages.{stage_of}
 use Rattle.kv_ops.proofs.StageLemmas.{at-find, find-only, finds-other, finds-own}
 use Rattle.machine.specs.Client.{finds_at}
@@ -12,7 +13,7 @@ pub returns : goal.returns
 returns c = λ key_search at.
     let client = client_of c.args.self.now in
     let start = c.in-Find.find in
-    let here = ap stage_of c.in-Find.is in
+    let here = ap (λ (s : Stage). stage_of s c.args.self.now.reading c.args.self.now.body) c.in-Find.is in
     let told = c.on_find.ensures c.if-is_own.find refl (sym c.place-place.ensures) in
     let same : start ≡ key_search = find-only start key_search (sym here ∙ at) in
     let turned : turn_of c.on_find.new.self c.on_find.result ≡ finds_at start.phase client start c.args.answer =
