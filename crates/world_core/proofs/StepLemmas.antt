@@ -1,11 +1,11 @@
 -- A client's verb: what the program notes of it is what the world's ledger has.
-use Rattle.std.proofs.Common.{◌≡◌, ℕ, ◌<◌, ◌==◌, ◌-◌, ◌↔◌, Bool, true, false, ◌&&◌, List, [], ◌∷◌, length, get_or, Option, Some, None, refl, sym, ap, ◌∙◌}
+use Rattle.std.proofs.Common.{◌≡◌, ℕ, ◌<◌, ◌==◌, ◌-◌, if◌then◌else◌, ◌↔◌, Bool, true, false, ◌&&◌, List, [], ◌∷◌, length, get_or, Option, Some, None, refl, sym, ap, ◌∙◌}
 use Rattle.std.specs.Option.{option_map_or}
 use Rattle.std.specs.Prelude.{not, nat_lt, slice_get, slice_index_or}
 use Rattle.std.proofs.lemmas.List.{get_or_default}
 use Rattle.kv_ops.specs.Ahead.{is_ending}
 use Rattle.kv_ops.specs.Causes.{Returns}
-use Rattle.machine.specs.Client.{told}
+use Rattle.machine.specs.Client.{own_object, told}
 use Rattle.machine.specs.declared.client_call.Outcome.{Outcome}
 use Rattle.machine.specs.declared.client_call.Step.{Step}
 use Rattle.machine.specs.declared.client_call.Step.TheVariants as step
@@ -13,18 +13,24 @@ use Rattle.machine.specs.SlotWrite.{SlotWrite}
 use Rattle.machine.specs.Stage.{Client, Stage, Idle, Start, ReadEpoch, Pause, Paused, LostNode, Seek, Fetch, Choose, Clear, Body, Find, ReadVersion, Log, WriteSlot, AwaitRound, TestKey, Resolve, Free, Return, End}
 use Rattle.machine_world.specs.Calls.{reply_of}
 use Rattle.machine_world.specs.Events.{moments_of}
-use Rattle.machine_world.specs.Ledger.{Caller, caller_of, final_of, is_word, reads_slot, winner_rank, with_final, with_read, with_return, with_taking}
+use Rattle.machine_world.specs.Ledger.{Caller, caller_of, final_of, is_word, reads_slot, winner_rank, with_final, with_holder, with_read, with_return, with_taking}
 use Rattle.machine_world.specs.World.{Ledger, nobody}
 use Rattle.map_model.specs.Trace.{Returned}
 use Rattle.region_view.specs.Sizes.{Sizes}
+use Rattle.verb_words.specs.Applied.{words_after}
+use Rattle.verb_words.specs.Verb.{place_of}
 use Rattle.verb_words.specs.declared.verbs.Answer.{Answer}
-use Rattle.world_core.specs.Dues.{HasRankToReturn, IsReturning, decision_for, has_own_in_stock, moments_told, with_decided, with_returning, word_to_replace}
+use Rattle.verb_words.specs.declared.verbs.Place.{Place}
+use Rattle.verb_words.specs.declared.verbs.Verb.{Verb}
+use Rattle.world_core.specs.Dues.{HasRankToReturn, IsReturning, decision_for, has_own_in_stock, may_take, moments_told, with_decided, with_returning, word_to_replace}
 use Rattle.world_core.specs.Steps.{client_in, ledger_for}
 use Rattle.world_core.specs.declared.dues.Decision.{Decision}
 use Rattle.world_core.specs.declared.dues.Returning.{Returning}
 use Rattle.world_ledger.proofs.ReturnLemmas.{with_returned-outcome}
+use Rattle.world_ledger.proofs.StockLemmas.{in_stock-other}
 use Rattle.world_ledger.specs.Kept.{has_rank, has_rank_if, with_taking_of}
 use Rattle.world_ledger.specs.Returns.{returned_of, with_returned}
+use Rattle.world_ledger.specs.Seen.{may_bear_on_stock}
 
 -- the slot and the fresh word of a write that is at its final swap
 abbrev pub swap_of : Option SlotWrite → Option (ℕ × ℕ)
@@ -46,6 +52,47 @@ with_own-taking sizes before now client ledger = by (client.object == 0) refl
         ≡ with_taking sizes before now client ledger
     by true none = rw none refl
     by false some = rw some refl
+
+-- where a verb may not change whether the object is in stock, nothing is to be noted of it
+pub with_watched-taking : (sizes : Sizes) (before now : List (List ℕ)) (client : Client) (watches : Bool) (ledger : Ledger)
+    → (watches ≡ false → has_own_in_stock sizes before client ≡ has_own_in_stock sizes now client)
+    → with_taking_of sizes client.client client.object (watches && has_own_in_stock sizes before client) (watches && has_own_in_stock sizes now client) ledger
+    ≡ with_taking sizes before now client ledger
+with_watched-taking sizes before now client true ledger stays = with_own-taking sizes before now client ledger
+with_watched-taking sizes before now client false ledger stays =
+    ap (λ t. if t then with_holder sizes ledger client.object client.client else ledger) (never (client.object == 0) false)
+    ∙ sym (ap (λ t. if t then with_holder sizes ledger client.object client.client else ledger) (nothing (client.object == 0) (has_own_in_stock sizes now client)))
+    ∙ ap (λ was. with_taking_of sizes client.client client.object was (has_own_in_stock sizes now client) ledger) (sym (stays refl))
+    ∙ with_own-taking sizes before now client ledger
+  where
+    never : (none is : Bool) → (not none && (false && not is)) ≡ false
+    never true is = refl
+    never false is = refl
+
+    nothing : (none is : Bool) → (not none && (is && not is)) ≡ false
+    nothing true is = refl
+    nothing false true = refl
+    nothing false false = refl
+
+-- a verb that may not take the object leaves it in stock, or out of it
+pub own_in_stock-other : (sizes : Sizes) (nodes : List (List ℕ)) (client : Client) (verb : Verb) (refuse : Bool) → may_take sizes client (place_of verb) ≡ false
+    → has_own_in_stock sizes nodes client ≡ has_own_in_stock sizes (words_after nodes verb refuse) client
+own_in_stock-other sizes nodes client verb refuse may_not = by (client.object == 0) refl
+  where
+    by : (t : Bool) → (client.object == 0) ≡ t → has_own_in_stock sizes nodes client ≡ has_own_in_stock sizes (words_after nodes verb refuse) client
+    by true none = rw none refl
+    by false some =
+        let bears_not : may_bear_on_stock sizes client.object (place_of verb) ≡ false =
+        sym (ap (λ t. if t then false else may_bear_on_stock sizes client.object (place_of verb)) some) ∙ may_not in
+        rw some (sym (in_stock-other sizes nodes verb refuse (own_object client) bears_not))
+
+-- the same of what is at hand of a verb
+pub own_stays : (sizes : Sizes) (before now : List (List ℕ)) (client : Client) (verb : Verb) (refuse : Bool) (place : Place) (watches : Bool)
+    → place ≡ place_of verb → watches ≡ may_take sizes client place → now ≡ words_after before verb refuse → watches ≡ false
+    → has_own_in_stock sizes before client ≡ has_own_in_stock sizes now client
+own_stays sizes before now client verb refuse place watches at is leads not_so =
+    own_in_stock-other sizes before client verb refuse (ap (may_take sizes client) (sym at) ∙ sym is ∙ not_so)
+    ∙ ap (λ nodes. has_own_in_stock sizes nodes client) (sym leads)
 
 -- a call that may end has no swap due
 pub ending-decides_nothing : (stage : Stage) → is_ending stage ≡ true → final_of stage ≡ None
@@ -139,10 +186,12 @@ pub record IsNoted (sizes : Sizes) (before now : List (List ℕ)) (event : ℕ) 
   pub is_number : number ≡ client.client
   pub pointer : ℕ
   pub is_pointer : pointer ≡ client.object
+  pub watches : Bool
+  pub stays : watches ≡ false → has_own_in_stock sizes before client ≡ has_own_in_stock sizes now client
   pub was : Bool
-  pub is_was : was ≡ has_own_in_stock sizes before client
+  pub is_was : was ≡ (watches && has_own_in_stock sizes before client)
   pub has : Bool
-  pub is_has : has ≡ has_own_in_stock sizes now client
+  pub is_has : has ≡ (watches && has_own_in_stock sizes now client)
   pub read : Ledger
   pub reads : read ≡ with_read event client answer first
   pub decided : Ledger
@@ -188,7 +237,7 @@ ledger-noted sizes before now event client answer told_of returning first taken 
     ∙ ap (with_return client (told client answer) event)
     (noted.takes
     ∙ (λ i. with_taking_of sizes (noted.is_number i) (noted.is_pointer i) (noted.is_was i) (noted.is_has i) noted.decided)
-    ∙ with_own-taking sizes before now client noted.decided
+    ∙ with_watched-taking sizes before now client noted.watches noted.decided noted.stays
     ∙ ap (with_taking sizes before now client) (noted-decided sizes before now event client answer first taken noted))
 
 -- The client at a place.

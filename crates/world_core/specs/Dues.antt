@@ -13,11 +13,13 @@ use Rattle.machine_world.specs.Readings.{deciding_word, is_in_stock}
 use Rattle.machine_world.specs.World.{Ledger}
 use Rattle.map_model.specs.Trace.{Moment, Returned}
 use Rattle.region_view.specs.Sizes.{Sizes}
+use Rattle.verb_words.specs.declared.verbs.Place.{Place}
 use Rattle.verb_history.specs.Moments.{moment_of}
 use Rattle.world_core.specs.declared.dues.Decision.{Decision}
 use Rattle.world_core.specs.declared.dues.Returning.{Returning}
 use Rattle.world_ledger.specs.Kept.{HasDecisionRoom, Kept, has_rank_if}
 use Rattle.world_ledger.specs.Returns.{returned_of, with_returned}
+use Rattle.world_ledger.specs.Seen.{may_bear_on_stock}
 
 -- the decision by a final swap of this slot to this word, of the caller's call
 abbrev pub decision_by : Caller → ℕ × ℕ → Decision
@@ -61,6 +63,10 @@ OwnsNoneOrOne sizes client = (client.object ≡ 0) ⊎ IsObject sizes (own_objec
 -- whether the bit of the chosen object is set on the primary
 abbrev pub has_own_in_stock : Sizes → List (List ℕ) → Client → Bool
 has_own_in_stock sizes nodes client = if client.object == 0 then false else is_in_stock sizes nodes (own_object client)
+
+-- whether a verb that goes to this place may change that
+abbrev pub may_take : Sizes → Client → Place → Bool
+may_take sizes client place = if client.object == 0 then false else may_bear_on_stock sizes client.object place
 
 -- the deciding word of the slot that is to be decided
 abbrev pub word_to_replace : Sizes → List (List ℕ) → Option Decision → ℕ

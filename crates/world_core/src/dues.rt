@@ -1,10 +1,10 @@
 //! What a client's next verb may bring into the past, made ready before the verb is taken.
 
-ghost use Rattle.std.specs.Prelude.{◌≡◌, ◌++◌, ◌<◌, IfOk, OnOk, length, map, vec_capacity};
+ghost use Rattle.std.specs.Prelude.{◌≡◌, ◌++◌, ◌<◌, ◌&&◌, IfOk, OnOk, length, map, vec_capacity};
 ghost use Rattle.machine_world.specs.Ledger.{caller_of, with_read};
 ghost use Rattle.machine_world.specs.Standing.{node_sizes};
 ghost use Rattle.verb_history.specs.Moments.{moment_of};
-ghost use Rattle.world_core.specs.Dues.{HasRankToReturn, HasRoomToDecide, HasSlot, IsOfIndex, IsReturning, OwnsNoneOrOne, decision_for, has_own_in_stock, moments_told, with_decided, with_returning, word_to_replace};
+ghost use Rattle.world_core.specs.Dues.{HasRankToReturn, HasRoomToDecide, HasSlot, IsOfIndex, IsReturning, OwnsNoneOrOne, decision_for, has_own_in_stock, may_take, moments_told, with_decided, with_returning, word_to_replace};
 ghost use Rattle.world_ledger.specs.Kept.{HasEntryRoom};
 
 use crate::calls::{caller_of, reply_of};
@@ -13,8 +13,8 @@ use kv_ops::{Actor, Step};
 use region_view::Shape;
 use std::alloc::{AllocError, Global};
 use verb_history::Moment;
-use verb_words::{Answer, Nodes};
-use world_ledger::{Caller, Ledger, Returned, deciding_word, is_in_stock};
+use verb_words::{Answer, Nodes, Place};
+use world_ledger::{Caller, Ledger, Returned, deciding_word, is_in_stock, may_bear_on_stock};
 
 /// The word of this call becomes deciding in the slot, if the verb puts it there.
 #[derive(Debug, Drop)]
@@ -140,13 +140,29 @@ pub(crate) fn note_read(ledger: &mut Ledger, actor: &Actor, answer: Answer, even
     }
 }
 
-/// Whether the bit of the object that the client's call has chosen is set on the primary; false where
-/// it has chosen none.
-pub(crate) fn has_own_in_stock(nodes: &Nodes, shape: &Shape, actor: &Actor) -> bool
+/// Whether a verb that goes to this place may change the bit of the object that the client's call has
+/// chosen. Most verbs do not, and need no look at the bit.
+pub(crate) fn may_take(shape: &Shape, actor: &Actor, place: Place) -> bool
+    requires object { OwnsNoneOrOne shape.now actor.now }
+    ensures { result ≡ may_take shape.now actor.now place }
+{
+    let pointer = actor.object();
+    if pointer == 0 {
+        return false;
+    }
+    may_bear_on_stock(shape, pointer, place)
+}
+
+/// Whether the bit of the object that the client's call has chosen is set on the primary, where that
+/// is asked; false where it is not asked, or the call has chosen none.
+pub(crate) fn has_own_in_stock(nodes: &Nodes, shape: &Shape, actor: &Actor, is_asked: bool) -> bool
     requires whole { map length nodes.now ≡ node_sizes shape.now }
     requires object { OwnsNoneOrOne shape.now actor.now }
-    ensures { result ≡ has_own_in_stock shape.now nodes.now actor.now }
+    ensures { result ≡ (is_asked && has_own_in_stock shape.now nodes.now actor.now) }
 {
+    if !is_asked {
+        return false;
+    }
     let pointer = actor.object();
     if pointer == 0 {
         return false;

@@ -8,8 +8,8 @@ ghost use Rattle.verb_history.specs.Moments.{moment_of};
 ghost use Rattle.world_core.specs.Steps.{CanStep, IsReady, answer_for, client_in, ledger_for, nodes_for};
 
 use crate::dues::{
-    decision_of, has_own_in_stock, make_room, note_decision, note_read, note_return, returning_of,
-    word_to_replace,
+    decision_of, has_own_in_stock, make_room, may_take, note_decision, note_read, note_return,
+    returning_of, word_to_replace,
 };
 use crate::worlds::World;
 use kv_ops::Step;
@@ -102,12 +102,13 @@ fn take_verb(
     let returning = returning_of(alloc, actor)?;
     make_room(ledger, trace, &decision)?;
     let before = word_to_replace(nodes, shape, &decision);
-    let was_in_stock = has_own_in_stock(nodes, shape, actor);
     let verb = actor.next();
+    let may_take = may_take(shape, actor, verb.place());
+    let was_in_stock = has_own_in_stock(nodes, shape, actor, may_take);
     let answer = nodes.apply(verb, !late);
     note_read(ledger, actor, answer, event);
     note_decision(ledger, nodes, shape, before, decision, event);
-    let is_in_stock = has_own_in_stock(nodes, shape, actor);
+    let is_in_stock = has_own_in_stock(nodes, shape, actor, may_take);
     ledger.note_taking(
         shape,
         actor.client(),

@@ -3,3 +3,4 @@ mod DivisionLemmas
 mod ListLemmas
 pub mod ReadingLemmas
 pub mod ReturnLemmas
+pub mod StockLemmas

@@ -24,6 +24,8 @@ pub use divisions::division;
 pub use entries::{Caller, Returned};
 pub use ledgers::Ledger;
 pub use losses::region_lost;
-pub use objects::{block_in_force, is_in_stock, link_word_in_force, slot_of_present};
+pub use objects::{
+    block_in_force, is_in_stock, link_word_in_force, may_bear_on_stock, slot_of_present,
+};
 pub use readings::{deciding_word, epoch_in_force, is_lost, is_sealed, mask_in_force, primary_of};
 pub use states::{block_state, object_state, state_of_object};

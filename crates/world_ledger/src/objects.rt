@@ -1,19 +1,19 @@
 ghost use Rattle.std.specs.Prelude.{◌≡◌, ◌<◌, ◌≤◌, IfSome, map, length};
 ghost use Rattle.block_alloc.specs.BlockWord.{IsBlock, block_in};
-ghost use Rattle.machine.specs.ObjectNames.{IsObject};
+ghost use Rattle.machine.specs.ObjectNames.{IsObject, bitmap_of};
 ghost use Rattle.machine.specs.Places.{object_word};
 ghost use Rattle.machine_world.specs.Readings.{is_in_stock, names, slot_of_present, word_in_force};
 ghost use Rattle.machine_world.specs.Standing.{node_sizes};
 ghost use Rattle.object_form.specs.declared.classes.TheConstants.{CLASSES};
-ghost use Rattle.region_view.specs.Layout.{BlockWord as block_word_at};
-ghost use Rattle.world_ledger.specs.Seen.{IsUnit};
+ghost use Rattle.region_view.specs.Layout.{BlockWord as block_word_at, position_of};
+ghost use Rattle.world_ledger.specs.Seen.{IsUnit, may_bear_on_stock};
 
-use crate::readings::{deciding_word, word_of_region};
+use crate::readings::{deciding_word, region_start, word_of_region};
 use block_alloc::{BlockWord, block_of};
 use key_test::{Object, object_in};
 use object_form::{block_at, object_at, region_of, unit_of};
 use region_view::Shape;
-use verb_words::Nodes;
+use verb_words::{Nodes, Place};
 
 /// What a block's word says on its primary; `None` where it says nothing.
 pub fn block_in_force(nodes: &Nodes, shape: &Shape, region: u32, block: u32) -> Option<BlockWord>
@@ -47,6 +47,24 @@ pub(crate) fn has_bit_in_force(nodes: &Nodes, shape: &Shape, pointer: u32, class
     let block = block_at(pointer);
     let bits = word_of_region(nodes, shape, region, 64 + block);
     (bits >> object_at(pointer, class)) % 2 == 1
+}
+
+/// Whether a change of the word at this place may change whether the object of this pointer is in
+/// stock: the word stands where the bitmap of the object's block does, or where the epoch word does.
+/// A change of any other word never does.
+pub fn may_bear_on_stock(shape: &Shape, pointer: u32, place: Place) -> bool
+    requires unit { IsUnit shape.now pointer }
+    ensures { result ≡ may_bear_on_stock shape.now pointer place }
+{
+    place.at == 0 || place.at == bitmap_at(shape, pointer)
+}
+
+// Where the bitmap of the pointer's block stands on each of its nodes.
+fn bitmap_at(shape: &Shape, pointer: u32) -> u32
+    requires unit { IsUnit shape.now pointer }
+    ensures { result ≡ position_of shape.now (bitmap_of pointer) }
+{
+    region_start(shape, region_of(pointer)) + 64 + block_at(pointer)
 }
 
 /// The link word of the object that a pointer names, on the primary of its region.

@@ -113,7 +113,7 @@ pub(crate) fn word_of_region(nodes: &Nodes, shape: &Shape, region: u32, offset: 
     nodes.word(Place { node, at })
 }
 
-fn region_start(shape: &Shape, region: u32) -> u32
+pub(crate) fn region_start(shape: &Shape, region: u32) -> u32
     requires least { 1 ≤ region }
     requires most { region ≤ shape.now.regions }
     ensures start { result ≡ region_start shape.now region }

@@ -6,7 +6,7 @@ use Rattle.machine_world.specs.Ledger.{with_read}
 use Rattle.verb_words.specs.Applied.{answer_to}
 use Rattle.verb_history.specs.Moments.{moment_of}
 use Rattle.world_core.specs.Steps.{answer_for, ledger_for}
-use Rattle.world_core.proofs.StepLemmas.{EndsAsTold, IsNoted, ended-ends, found-client, ledger-noted, moments-told, returning-has_rank}
+use Rattle.world_core.proofs.StepLemmas.{EndsAsTold, IsNoted, ended-ends, found-client, ledger-noted, moments-told, own_stays, returning-has_rank}
 use Rattle.world_core.proofs.steps.take_verb.Goals as goal
 
 pub note_return-requires-clause-rank : goal.note_return-requires-clause-rank
@@ -22,6 +22,9 @@ note_return-requires-clause-rank c =
       is_number = c.client.ensures;
       pointer = c.object.result;
       is_pointer = c.object.ensures;
+      watches = c.may_take-may_take.result;
+      stays = λ may_not. own_stays c.args.shape.now c.args.nodes.now c.apply-answer.new.self c.index-actor.result.now c.next-verb.result (not c.args.late) c.place.result c.may_take-may_take.result
+          c.place.ensures c.may_take-may_take.ensures c.apply-answer.ensures.words may_not;
       was = c.has_own_in_stock-was_in_stock.result;
       is_was = c.has_own_in_stock-was_in_stock.ensures;
       has = c.has_own_in_stock-is_in_stock.result;
@@ -52,6 +55,9 @@ returns-clause-ledger c =
       is_number = c.client.ensures;
       pointer = c.object.result;
       is_pointer = c.object.ensures;
+      watches = c.may_take-may_take.result;
+      stays = λ may_not. own_stays c.args.shape.now c.args.nodes.now c.apply-answer.new.self c.index-actor.result.now c.next-verb.result (not c.args.late) c.place.result c.may_take-may_take.result
+          c.place.ensures c.may_take-may_take.ensures c.apply-answer.ensures.words may_not;
       was = c.has_own_in_stock-was_in_stock.result;
       is_was = c.has_own_in_stock-was_in_stock.ensures;
       has = c.has_own_in_stock-is_in_stock.result;
