@@ -37,7 +37,7 @@ unless-counted : (world now : World) (reason : Option Refused) → now.events �
 unless-counted world now None counted = counted
 unless-counted world now (Some reason) counted = omega arith
 
-happens-counted : (world : World) (event : Event) → (happens world event).events ≤ world.events + 1
+pub happens-counted : (world : World) (event : Event) → (happens world event).events ≤ world.events + 1
 happens-counted world event = unless-counted world (occurs world event) (refusal world event) (occurs-counted world event)
 
 pub run_from-counted : (world : World) (events : List Event) → (run_from world events).events ≤ world.events + length events

@@ -1,0 +1,5 @@
+pub mod Told
+pub mod Counted
+pub mod Course
+pub mod Keys
+pub mod Pool
