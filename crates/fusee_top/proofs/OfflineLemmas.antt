@@ -1,5 +1,5 @@
 -- The statuses of the top call, from what it met.
-use Rattle.std.proofs.Common.{◌≡◌, ◌≢◌, ℕ, ◌<◌, ◌≤◌, Bool, true, false, ◌⊎◌, inl, inr, List, ◌++◌, length, Some, None, refl, sym, ap, ◌∙◌, arith, length-append}
+use Rattle.std.proofs.Common.{◌≡◌, ◌≢◌, ℕ, ◌<◌, ◌≤◌, Bool, true, false, ◌&&◌, ◌⊎◌, inl, inr, List, ◌++◌, length, Some, None, refl, sym, ap, ◌∙◌, arith, length-append}
 use Rattle.std.specs.Prelude.{Option, Result, Ok, Err, nat_lt, if◌then◌else◌}
 use Rattle.std.specs.Io.KnownBytes.{Consumes, IsAtEnd}
 use Rattle.std.proofs.lemmas.Bool.Decides.{nat_tests}
@@ -10,7 +10,9 @@ use Rattle.lease_core.specs.declared.lease_lines.LeaseLine.{LeaseLine}
 use Rattle.lease_core.specs.declared.reading.LeaseKind.{LeaseKind}
 use Rattle.lease_core.proofs.FencingLemmas.{no_lawful_after}
 use Rattle.outside.proofs.AppendedLemmas.{front_of_all}
-use Rattle.script_meaning.specs.Scripts.{rendered}
+use Rattle.script_meaning.specs.Scripts.{rendered as script_rendered}
+use Rattle.sim_meaning.specs.Summary.{rendered}
+use Rattle.sim_meaning.specs.declared.numbers.Numbers.{Numbers}
 use Rattle.script_run.specs.declared.running.TheConstants.{MOST_WORDS}
 use Rattle.script_text.specs.OutputRead.{Bad, output_of}
 use Rattle.script_text.specs.ScriptForm.{Fault, Plan, reading_of}
@@ -27,8 +29,9 @@ use Rattle.fusee_top.specs.Verdict.{verdict_text}
 use Rattle.fusee_top.specs.Course.{Concludes, Ends, Starves, EndsIn, SinkCourse, SourceCourse, ReadFailed, WriteFailed, Wrote}
 use Rattle.fusee_top.specs.Endings.{Comes, Ending, IsOutputEnding, Ran, Told, ending_status, ending_text, events_ending, output_status, printed, read_ending, sized_ending, status_of}
 use Rattle.fusee_top.specs.Input.{WasAll}
-use Rattle.fusee_top.specs.Offline.{Answers, HasBadLine, HasReadFault, HasTooManyWords, HasUsage, IsAccepted, IsStatus, IsTooLarge, LeavesFront, Meets, Outcome, RanAudit, RanLeases, RanScript, ReadFault, TooLarge, Usage, Whole, input_status, outcome_ending}
+use Rattle.fusee_top.specs.Offline.{Answers, HasBadLine, HasReadFault, HasTooManyWords, HasUsage, IsAccepted, IsStatus, IsTooLarge, LeavesFront, Meets, Outcome, RanAudit, RanLeases, RanScript, ReadFault, Simulates, TooLarge, Usage, Whole, input_status, outcome_ending}
 use Rattle.fusee_top.specs.Sizes.{shape_words}
+use Rattle.fusee_top.specs.Words.{is_reading, reads}
 use Rattle.fusee_top.specs.declared.commands.Command.{Command}
 use Rattle.fusee_top.specs.declared.commands.Command.TheVariants as command
 use Rattle.fusee_top.specs.declared.notices.Notice.TheVariants as notice
@@ -90,6 +93,7 @@ script_of : (named : Option Command) (source : SourceCourse) (sink : SinkCourse)
 script_of named source sink Usage names meets status wrote = absurd (omega arith)
 script_of named source sink ReadFault names meets status wrote = absurd (omega arith)
 script_of named source sink TooLarge names meets status wrote = absurd (omega arith)
+script_of named source sink (Simulates numbers) names meets status wrote = let other = sym names ∙ meets in cc
 script_of named source sink (Whole called input ending) names meets status wrote =
     let comes = rw (same_command command.Script called (sym names ∙ meets.0)) at meets.2 in
     script_ran source sink input (reading_of input) ending meets.1 refl comes status wrote
@@ -119,6 +123,7 @@ audit_of : (named : Option Command) (source : SourceCourse) (sink : SinkCourse) 
 audit_of named source sink Usage names meets status wrote = absurd (omega arith)
 audit_of named source sink ReadFault names meets status wrote = absurd (omega arith)
 audit_of named source sink TooLarge names meets status wrote = absurd (omega arith)
+audit_of named source sink (Simulates numbers) names meets status wrote = let other = sym names ∙ meets in cc
 audit_of named source sink (Whole called input ending) names meets status wrote =
     let comes = rw (same_command command.Audit called (sym names ∙ meets.0)) at meets.2 in
     output_ran source sink input (output_of input) ending meets.1 refl comes status wrote
@@ -148,6 +153,7 @@ leases_of : (named : Option Command) (source : SourceCourse) (sink : SinkCourse)
 leases_of named source sink terms Usage names are meets status wrote = absurd (omega arith)
 leases_of named source sink terms ReadFault names are meets status wrote = absurd (omega arith)
 leases_of named source sink terms TooLarge names are meets status wrote = absurd (omega arith)
+leases_of named source sink terms (Simulates numbers) names are meets status wrote = let other = sym names ∙ meets in cc
 leases_of named source sink terms (Whole called input ending) names are meets status wrote =
     let comes = rw (same_command (command.Leases terms) called (sym names ∙ meets.0)) at meets.2 in
     events_ran source sink terms input (events_from 1 (text.lines_of input)) ending are meets.1 refl comes status wrote
@@ -157,6 +163,27 @@ pub RanLeases-answers : (named : Option Command) (source : SourceCourse) (sink :
 RanLeases-answers named source sink result terms answers is names are =
     let m = met named source sink result 0 answers is (omega arith) (omega arith) in
     leases_of named source sink terms m.outcome names are m.meets m.status_is m.wrote
+
+-- ---- sim
+
+sim_of : (named : Option Command) (source : SourceCourse) (sink : SinkCourse) (numbers : Numbers) (outcome : Outcome) → named ≡ Some (command.Sim numbers) → Meets named source outcome
+    → ending_status (outcome_ending outcome) ≡ 0 → Wrote sink (ending_text (outcome_ending outcome)) → Wrote sink (rendered numbers)
+sim_of named source sink numbers Usage names meets status wrote = absurd (omega arith)
+sim_of named source sink numbers ReadFault names meets status wrote = absurd (omega arith)
+sim_of named source sink numbers TooLarge names meets status wrote = absurd (omega arith)
+sim_of named source sink numbers (Whole called input ending) names meets status wrote =
+    let comes = rw (same_command (command.Sim numbers) called (sym names ∙ meets.0)) at meets.2 in
+    absurd comes
+sim_of named source sink numbers (Simulates others) names meets status wrote =
+    let called = sym meets ∙ names in
+    let same : others ≡ numbers = cc in
+    rw same at wrote
+
+pub simulated-answers : (named : Option Command) (source : SourceCourse) (sink : SinkCourse) (result : ℕ) (numbers : Numbers) → Answers named source sink result → result ≡ 0
+    → named ≡ Some (command.Sim numbers) → Wrote sink (rendered numbers)
+simulated-answers named source sink result numbers answers is names =
+    let m = met named source sink result 0 answers is (omega arith) (omega arith) in
+    sim_of named source sink numbers m.outcome names m.meets m.status_is m.wrote
 
 -- ---- the statuses of an input
 
@@ -183,6 +210,7 @@ status_of-input : (command : Command) (input : List ℕ) → IsInputStatus (stat
 status_of-input command.Script input = read_status (reading_of input)
 status_of-input command.Audit input = verdict_status (output_of input)
 status_of-input (command.Leases terms) input = events_status terms (events_from 1 (text.lines_of input))
+status_of-input (command.Sim numbers) input = inl refl
 
 output_ends : (read : Result (List OutLine) Bad) (ending : Ending) → IsOutputEnding read ending → ending_status ending ≡ output_status read
 output_ends (Ok lines) ending is = ap ending_status is.2
@@ -193,6 +221,7 @@ pub ending_status-comes : (command : Command) (input : List ℕ) (ending : Endin
 ending_status-comes command.Script input ending comes = ap ending_status comes
 ending_status-comes command.Audit input ending comes = output_ends (output_of input) ending comes
 ending_status-comes (command.Leases terms) input ending comes = ap ending_status comes
+ending_status-comes (command.Sim numbers) input ending comes = absurd comes
 
 other_status : (command : Command) (input : List ℕ) (ending : Ending) (n : ℕ) → Comes command input ending → ending_status ending ≡ n → n ≢ 0 → n ≢ 3 → n ≢ 7 → ⊥
 other_status command input ending n comes is zero three seven =
@@ -210,6 +239,7 @@ usage_of : (named : Option Command) (source : SourceCourse) (sink : SinkCourse) 
 usage_of named source sink Usage meets status wrote = record { none = meets; wrote = wrote }
 usage_of named source sink ReadFault meets status wrote = absurd (omega arith)
 usage_of named source sink TooLarge meets status wrote = absurd (omega arith)
+usage_of named source sink (Simulates numbers) meets status wrote = absurd (omega arith)
 usage_of named source sink (Whole command input ending) meets status wrote = absurd (other_status command input ending 2 meets.2 status (omega arith) (omega arith) (omega arith))
 
 pub HasUsage-answers : (named : Option Command) (source : SourceCourse) (sink : SinkCourse) (result : ℕ) → Answers named source sink result → result ≡ 2 → HasUsage named sink
@@ -222,11 +252,16 @@ ends_in sink text status result (inl p) = inl p.0
 ends_in sink text status result (inr (inl p)) = inr (inl p.0)
 ends_in sink text status result (inr (inr p)) = inr (inr p.0)
 
+none_reads : (named : Option Command) → named ≡ None → is_reading named ≡ true → ⊥
+none_reads None none reads = cc
+none_reads (Some command) none reads = cc
+
 pub only_usage_of : (named : Option Command) (source : SourceCourse) (sink : SinkCourse) (result : ℕ) → Answers named source sink result → named ≡ None → EndsIn 2 result
 only_usage_of named source sink result (inl p) none = inr (inr p.0)
 only_usage_of named source sink result (inr (Usage, meets, ends)) none = ends_in sink _ 2 result ends
-only_usage_of named source sink result (inr (ReadFault, meets, ends)) none = absurd (meets.0 none)
-only_usage_of named source sink result (inr (TooLarge, meets, ends)) none = absurd (meets.0 none)
+only_usage_of named source sink result (inr (ReadFault, meets, ends)) none = absurd (none_reads named none meets.0)
+only_usage_of named source sink result (inr (TooLarge, meets, ends)) none = absurd (none_reads named none meets.0)
+only_usage_of named source sink result (inr (Simulates numbers, meets, ends)) none = let other = sym none ∙ meets in cc
 only_usage_of named source sink result (inr (Whole command input ending, meets, ends)) none = let other = sym none ∙ meets.0 in cc
 
 fault_of : (named : Option Command) (source : SourceCourse) (sink : SinkCourse) (outcome : Outcome) → Meets named source outcome
@@ -234,6 +269,7 @@ fault_of : (named : Option Command) (source : SourceCourse) (sink : SinkCourse) 
 fault_of named source sink Usage meets status wrote = absurd (omega arith)
 fault_of named source sink ReadFault meets status wrote = record { failed = meets.1; wrote = wrote }
 fault_of named source sink TooLarge meets status wrote = absurd (omega arith)
+fault_of named source sink (Simulates numbers) meets status wrote = absurd (omega arith)
 fault_of named source sink (Whole command input ending) meets status wrote = absurd (other_status command input ending 4 meets.2 status (omega arith) (omega arith) (omega arith))
 
 pub HasReadFault-answers : (named : Option Command) (source : SourceCourse) (sink : SinkCourse) (result : ℕ) → Answers named source sink result → result ≡ 4 → HasReadFault source sink
@@ -255,6 +291,7 @@ bad_of : (named : Option Command) (source : SourceCourse) (sink : SinkCourse) (o
 bad_of named source sink Usage meets status wrote = absurd (omega arith)
 bad_of named source sink ReadFault meets status wrote = absurd (omega arith)
 bad_of named source sink TooLarge meets status wrote = absurd (omega arith)
+bad_of named source sink (Simulates numbers) meets status wrote = absurd (omega arith)
 bad_of named source sink (Whole command input ending) meets status wrote = bad_ending named source sink command input ending meets.0 meets.1 meets.2 status wrote
 
 pub HasBadLine-answers : (named : Option Command) (source : SourceCourse) (sink : SinkCourse) (result : ℕ) → Answers named source sink result → result ≡ 3 → HasBadLine named source sink
@@ -271,6 +308,7 @@ write_fault_of named source sink result (inr (outcome, meets, inr (inr p))) is =
 write_fault_of named source sink result (inr (Usage, meets, inl p)) is = let two = p.0 in absurd (omega arith)
 write_fault_of named source sink result (inr (ReadFault, meets, inl p)) is = let four = p.0 in absurd (omega arith)
 write_fault_of named source sink result (inr (TooLarge, meets, inl p)) is = let seven = p.0 in absurd (omega arith)
+write_fault_of named source sink result (inr (Simulates numbers, meets, inl p)) is = let zero = p.0 in absurd (omega arith)
 write_fault_of named source sink result (inr (Whole command input ending, meets, inl p)) is =
     absurd (other_status command input ending 5 meets.2 (sym p.0 ∙ is) (omega arith) (omega arith) (omega arith))
 
@@ -309,13 +347,15 @@ no_event terms (Err bad) n is zero three = three (sym is)
 only_script : (called : Command) (input : List ℕ) (ending : Ending) (n : ℕ) → Comes called input ending → ending_status ending ≡ n → n ≢ 0 → n ≢ 3 → called ≡ command.Script
 only_script command.Script input ending n comes is zero three = refl
 only_script command.Audit input ending n comes is zero three = absurd (no_verdict (output_of input) n (sym (ending_status-comes command.Audit input ending comes) ∙ is) zero three)
+only_script (command.Sim numbers) input ending n comes is zero three = absurd comes
 only_script (command.Leases terms) input ending n comes is zero three = absurd (no_event terms (events_from 1 (text.lines_of input)) n (sym (ending_status-comes (command.Leases terms) input ending comes) ∙ is) zero three)
 
 large_of : (named : Option Command) (source : SourceCourse) (sink : SinkCourse) (outcome : Outcome) → Meets named source outcome
     → ending_status (outcome_ending outcome) ≡ 7 → Wrote sink (ending_text (outcome_ending outcome)) → IsTooLarge named source sink
 large_of named source sink Usage meets status wrote = absurd (omega arith)
 large_of named source sink ReadFault meets status wrote = absurd (omega arith)
-large_of named source sink TooLarge meets status wrote = inl (record { some = meets.0; gave = meets.1; wrote = wrote })
+large_of named source sink TooLarge meets status wrote = inl (record { reads = meets.0; gave = meets.1; wrote = wrote })
+large_of named source sink (Simulates numbers) meets status wrote = absurd (omega arith)
 large_of named source sink (Whole command input ending) meets status wrote =
     let script = only_script command input ending 7 meets.2 status (omega arith) (omega arith) in
     let comes = rw script at meets.2 in
@@ -343,6 +383,13 @@ over_limit n above = grind (arith, nat_tests)
 within_limit : (n : ℕ) → n ≤ LIMIT → nat_lt LIMIT n ≡ false
 within_limit n below = grind (arith, nat_tests)
 
+small : (reading : Bool) (n : ℕ) → n ≤ LIMIT → (reading && nat_lt LIMIT n) ≡ false
+small true n below = within_limit n below
+small false n below = refl
+
+simulated_in : (called : Command) (input : List ℕ) (numbers : Numbers) (result : ℕ) → Some called ≡ Some (command.Sim numbers) → EndsIn 0 result → EndsIn (input_status called input) result
+simulated_in called input numbers result names ends = let same : called ≡ command.Sim numbers = cc in rw same ends
+
 pub decided_by : (named : Option Command) (source : SourceCourse) (sink : SinkCourse) (result : ℕ) (command : Command) (input : List ℕ)
     → Answers named source sink result → named ≡ Some command → source.left ≡ Some input → (ReadFailed source → ⊥) → EndsIn (input_status command input) result
 decided_by named source sink result command input (inl p) names told calm = inr (inr p.0)
@@ -352,7 +399,10 @@ decided_by named source sink result command input (inr (TooLarge, meets, ends)) 
     let more = meets.1 in
     let front = given_is_front input more.given source.left_now (rw told at more.read) in
     let above = more.over in
-    rw (over_limit (length input) (omega arith)) (ends_in sink _ 7 result ends)
+    let reads_it : reads command ≡ true = ap is_reading (sym names) ∙ meets.0 in
+    rw (reads_it, over_limit (length input) (omega arith)) (ends_in sink _ 7 result ends)
+decided_by named source sink result command input (inr (Simulates numbers, meets, ends)) names told calm =
+    simulated_in command input numbers result (sym names ∙ meets) (ends_in sink _ 0 result ends)
 decided_by named source sink result command input (inr (Whole other read ending, meets, ends)) names told calm =
     let was = meets.1 in
     let all = all_of_it input read source.left_now (rw told at was.read) was.at_end in
@@ -361,7 +411,7 @@ decided_by named source sink result command input (inr (Whole other read ending,
     let called = sym names ∙ meets.0 in
     let same : other ≡ command = cc in
     let status : ending_status ending ≡ status_of command input = ending_status-comes other read ending meets.2 ∙ ap (λ c. status_of c read) same ∙ ap (status_of command) all in
-    rw (within_limit (length input) (omega arith), ← status) (ends_in sink _ (ending_status ending) result ends)
+    rw (small (reads command) (length input) (omega arith), ← status) (ends_in sink _ (ending_status ending) result ends)
 
 accepted_status : (command : Command) (input : List ℕ) → IsAccepted command input → input_status command input ≡ 0
 accepted_status command.Script input accepted =
@@ -369,6 +419,7 @@ accepted_status command.Script input accepted =
     rw (within_limit (length input) accepted.0, means, below (shape_words accepted.1.0.shape) accepted.1.2) refl
 accepted_status command.Audit input accepted = rw (within_limit (length input) accepted.0, accepted.1.1) refl
 accepted_status (command.Leases terms) input accepted = rw (within_limit (length input) accepted.0, accepted.1.1) refl
+accepted_status (command.Sim numbers) input accepted = refl
 
 pub complete_by : (named : Option Command) (source : SourceCourse) (sink : SinkCourse) (result : ℕ) (command : Command) (input : List ℕ)
     → Answers named source sink result → named ≡ Some command → source.left ≡ Some input → IsAccepted command input → (ReadFailed source → ⊥) → (WriteFailed sink → ⊥) → (result ≡ 0) ⊎ (result ≡ 6)
@@ -401,15 +452,16 @@ IsStatus-answers named source sink result (inl p) = inr (inr (inr (inr (inr (inl
 IsStatus-answers named source sink result (inr (Usage, meets, ends)) = ended_status sink _ 2 result ends (inr (inl refl))
 IsStatus-answers named source sink result (inr (ReadFault, meets, ends)) = ended_status sink _ 4 result ends (inr (inr (inr (inl refl))))
 IsStatus-answers named source sink result (inr (TooLarge, meets, ends)) = ended_status sink _ 7 result ends (inr (inr (inr (inr (inr (inr refl))))))
+IsStatus-answers named source sink result (inr (Simulates numbers, meets, ends)) = ended_status sink _ 0 result ends (inl refl)
 IsStatus-answers named source sink result (inr (Whole command input ending, meets, ends)) = ended_status sink _ (ending_status ending) result ends (input_is_status command input ending meets.2)
 
 -- ---- what was read is carried out
 
-printed-rendered : (script : Script) → printed (plan_of script) ≡ rendered script
+printed-rendered : (script : Script) → printed (plan_of script) ≡ script_rendered script
 unfolding printed
 printed-rendered script = refl
 
-pub Concludes-sized : (sink : SinkCourse) (script : Script) (result : ℕ) → shape_words script.shape ≤ MOST_WORDS → Concludes sink (rendered script) 0 result
+pub Concludes-sized : (sink : SinkCourse) (script : Script) (result : ℕ) → shape_words script.shape ≤ MOST_WORDS → Concludes sink (script_rendered script) 0 result
     → Concludes sink (ending_text (sized_ending (plan_of script))) (ending_status (sized_ending (plan_of script))) result
 Concludes-sized sink script result within concludes = rw (below (shape_words script.shape) within, printed-rendered script) concludes
 
@@ -431,3 +483,16 @@ pub Answers-carried : (named : Option Command) (source : SourceCourse) (sink : S
     → Answers named source sink result
 Answers-carried named source sink command input read result names same was (inl p) = inl p
 Answers-carried named source sink command input read result names same was (inr (ending, comes, ends)) = inr (Whole command read ending, (names, rw same was, comes), ends)
+
+-- the call ends by what it met
+pub Answers-met : (named : Option Command) (source : SourceCourse) (sink : SinkCourse) (outcome : Outcome) (result : ℕ) → Meets named source outcome
+    → Concludes sink (ending_text (outcome_ending outcome)) (ending_status (outcome_ending outcome)) result → Answers named source sink result
+Answers-met named source sink outcome result meets (inl p) = inl p
+Answers-met named source sink outcome result meets (inr ends) = inr (outcome, meets, ends)
+
+-- a command that is no simulation reads
+pub is_reading-named : (named : Option Command) (called : Command) → named ≡ Some called → ((numbers : Numbers) → called ≢ command.Sim numbers) → is_reading named ≡ true
+is_reading-named named command.Script names other = rw names refl
+is_reading-named named command.Audit names other = rw names refl
+is_reading-named named (command.Leases terms) names other = rw names refl
+is_reading-named named (command.Sim numbers) names other = absurd (other numbers refl)

@@ -81,11 +81,12 @@ leases_ending terms input = events_ending terms (events_from 1 (lines_of input))
 
 -- ---- any command
 
--- the input comes to this
+-- the input comes to this; a simulation reads none
 abbrev pub Comes : Command → List ℕ → Ending → Type 0
 Comes command.Script input ending = ending ≡ script_ending input
 Comes command.Audit input ending = IsOutputEnding (output_of input) ending
 Comes (command.Leases terms) input ending = ending ≡ leases_ending terms input
+Comes (command.Sim numbers) input ending = ⊥
 
 abbrev pub output_status : Result (List OutLine) Bad → ℕ
 output_status (Ok lines) = 0
@@ -96,3 +97,4 @@ abbrev pub status_of : Command → List ℕ → ℕ
 status_of command.Script input = ending_status (script_ending input)
 status_of command.Audit input = output_status (output_of input)
 status_of (command.Leases terms) input = ending_status (leases_ending terms input)
+status_of (command.Sim numbers) input = 0

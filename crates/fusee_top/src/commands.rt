@@ -1,9 +1,9 @@
-ghost use Rattle.std.specs.Prelude.{◌≡◌, ◌⊎◌, ◌≤◌, length, map};
+ghost use Rattle.std.specs.Prelude.{◌≡◌, ◌⊎◌, ◌≤◌, Some, length, map, true};
 ghost use Rattle.std.specs.String.{string_bytes};
 ghost use Rattle.outside.specs.Faults.{IsSteady};
 ghost use Rattle.fusee_top.specs.Course.{Ends, Starves, sink_course};
 ghost use Rattle.fusee_top.specs.Endings.{Comes, Ending, ending_status, ending_text};
-ghost use Rattle.fusee_top.specs.Words.{IsNamed, command_of, leases_of, lone, terms_in};
+ghost use Rattle.fusee_top.specs.Words.{IsNamed, are_numbers, command_of, leases_of, lone, numbers_in, reads, sim_of, sim_under, terms_in};
 ghost use Rattle.fusee_top.specs.declared.commands.Command.{Command};
 
 use crate::audits::audit_text;
@@ -12,6 +12,7 @@ use crate::options::{Misread, option_values};
 use crate::scripts::run_script;
 use lease_core::{Terms, terms_of};
 use outside::Sink;
+use sim_meaning::Numbers;
 use std::alloc::Global;
 
 /// What the words of a call name.
@@ -23,6 +24,9 @@ pub enum Command {
     Audit,
     /// `leases --length L --error E`: answer lease lines, under these terms.
     Leases(Terms),
+    /// `sim --seed S --clients C --calls M --stops P --losses Q`: simulate this many clients, calls,
+    /// stops and losses, and tell what came of it.
+    Sim(Numbers),
 }
 
 /// The command that the words name, if they have the form of one.
@@ -36,6 +40,7 @@ pub fn command_of(alloc: Global, words: &[String]) -> Result<Command, Misread>
         "script" => lone(Command::Script, words),
         "audit" => lone(Command::Audit, words),
         "leases" => leases_of(alloc, words),
+        "sim" => sim_of(alloc, words),
         _ => Err(Misread::Form),
     }
 }
@@ -72,9 +77,62 @@ fn terms_in(length: u64, error: u64) -> Option<Terms>
     terms_of(length, error)
 }
 
+// A simulation of the numbers that the words behind the name give.
+fn sim_of(alloc: Global, words: &[String]) -> Result<Command, Misread>
+    ensures { IsNamed result (sim_of (map string_bytes words.now)) }
+{
+    let names = ["seed", "clients", "calls", "stops", "losses"];
+    match option_values(alloc, &names, words) {
+        Ok(values) => sim_under(&values),
+        Err(why) => Err(why),
+    }
+}
+
+// A simulation of the values of its options, in the order of their names.
+fn sim_under(values: &[u64]) -> Result<Command, Misread>
+    ensures { IsNamed result (sim_under (Some values.now)) }
+{
+    let [seed, clients, calls, stops, losses] = values else {
+        return Err(Misread::Form);
+    };
+    match numbers_in(*seed, *clients, *calls, *stops, *losses) {
+        Some(numbers) => Ok(Command::Sim(numbers)),
+        None => Err(Misread::Form),
+    }
+}
+
+// The numbers of a simulation, if there may be such a one.
+fn numbers_in(seed: u64, clients: u64, calls: u64, stops: u64, losses: u64) -> Option<Numbers>
+    ensures { result ≡ numbers_in seed clients calls stops losses }
+{
+    if !are_numbers(clients, calls, stops, losses) {
+        return None;
+    }
+    Some(Numbers {
+        seed,
+        clients: clients as u32,
+        calls: calls as u32,
+        stops: stops as u32,
+        losses: losses as u32,
+    })
+}
+
+fn are_numbers(clients: u64, calls: u64, stops: u64, losses: u64) -> bool
+    ensures { result ≡ are_numbers clients calls stops losses }
+{
+    0 < clients
+        && clients <= 64
+        && 0 < calls
+        && calls <= 10_000
+        && clients * calls <= 100_000
+        && stops < clients
+        && losses <= 2
+}
+
 /// Carries out a command that reads, over all that was read.
 pub fn carry_out<K: Sink>(alloc: Global, command: Command, text: &[u8], sink: &mut K) -> u8
-    requires { length text.now ≤ 4194304 }
+    requires reads { reads command ≡ true }
+    requires size { length text.now ≤ 4194304 }
     ensures ends { Starves (sink_course K.held K.faults sink.old sink.new) result
         ⊎ ((ending : Ending) × Comes command text.now ending
         × Ends (sink_course K.held K.faults sink.old sink.new)
@@ -85,5 +143,6 @@ pub fn carry_out<K: Sink>(alloc: Global, command: Command, text: &[u8], sink: &m
         Command::Script => run_script(alloc, text, sink),
         Command::Audit => audit_text(alloc, text, sink),
         Command::Leases(terms) => run_leases(alloc, terms, text, sink),
+        Command::Sim(_) => unreachable!(),
     }
 }

@@ -1,5 +1,5 @@
-//! The top call: reads a script and runs it, reads an output and audits it, or reads lease lines and
-//! answers them.
+//! The top call: reads a script and runs it, reads an output and audits it, reads lease lines and
+//! answers them, or simulates clients from a number.
 #![tactic(auto)]
 
 mod audits;
@@ -14,7 +14,11 @@ mod script_rows;
 mod script_tests;
 mod scripts;
 #[cfg(test)]
+mod sim_tests;
+mod simulations;
+#[cfg(test)]
 mod tests;
 mod top_call;
 
+pub use sim_run::run_shape;
 pub use top_call::offline;

@@ -1,17 +1,20 @@
-ghost use Rattle.std.specs.Prelude.{◌≡◌, ℕ, ◌⊎◌, ◌≤◌, List, Some, None, map};
+ghost use Rattle.std.specs.Prelude.{◌≡◌, ℕ, ◌⊎◌, ◌≤◌, List, Some, None, false, map};
 ghost use Rattle.std.specs.String.{string_bytes};
 ghost use Rattle.outside.specs.Faults.{IsSteady, Rose};
 ghost use Rattle.fusee_top.specs.Course.{EndsIn, ReadFailed, WriteFailed, Wrote, sink_course, source_course};
 ghost use Rattle.fusee_top.specs.Offline.{Answers, HasBadLine, HasReadFault, HasUsage, IsAccepted, IsStatus, IsTooLarge, LeavesFront, RanAudit, RanLeases, RanScript, input_status};
-ghost use Rattle.fusee_top.specs.Words.{command_of};
+ghost use Rattle.fusee_top.specs.Words.{command_of, is_reading};
 ghost use Rattle.fusee_top.specs.declared.commands.Command.{Command};
 ghost use Rattle.fusee_top.specs.declared.commands.Command.TheVariants as command;
 ghost use Rattle.lease_core.specs.Terms.{Agreed};
+ghost use Rattle.sim_meaning.specs.Summary.{rendered};
+ghost use Rattle.sim_meaning.specs.declared.numbers.Numbers.{Numbers};
 
-use crate::commands::{carry_out, command_of};
+use crate::commands::{Command, carry_out, command_of};
 use crate::notices::{NO_MEMORY, Notice, write_notice};
 use crate::options::Misread;
 use crate::reading::{Input, LIMIT, read_all};
+use crate::simulations::run_simulation;
 use outside::{Sink, Source};
 use std::alloc::Global;
 
@@ -19,8 +22,10 @@ use std::alloc::Global;
 ///
 /// `script` reads a script to its end, runs it, and writes what it prints. `audit` reads such an
 /// output to its end, and tells whether its last history is a history of one map. `leases`, with the
-/// options `--length` and `--error`, reads lease lines to their end, and answers each. Any other
-/// word, `run`, `export`, `import` and `ring` among them, is no command here. A status whose text
+/// options `--length` and `--error`, reads lease lines to their end, and answers each. `sim`, with
+/// the options `--seed`, `--clients`, `--calls`, `--stops` and `--losses`, reads nothing, and writes
+/// the summary of the simulation that these numbers are. Any other word, `run`, `export`, `import`
+/// and `ring` among them, is no command here. A status whose text
 /// could not be written gives way to 5 where a write failed, and to 6 where memory was wanting; of
 /// that text the sink then holds a front.
 pub fn offline<S: Source, K: Sink>(
@@ -40,6 +45,12 @@ pub fn offline<S: Source, K: Sink>(
         → command_of (map string_bytes words.now) ≡ Some (command.Leases terms)
         → RanLeases terms (source_course S.left S.faults source.old source.new)
         (sink_course K.held K.faults sink.old sink.new) }
+    ensures sim { result ≡ 0 → (numbers : Numbers)
+        → command_of (map string_bytes words.now) ≡ Some (command.Sim numbers)
+        → Wrote (sink_course K.held K.faults sink.old sink.new) (rendered numbers) }
+    // Words that name no command that reads leave the source as it is.
+    ensures unread { is_reading (command_of (map string_bytes words.now)) ≡ false
+        → source.new ≡ source.old }
     // 2: exactly where the words are no command.
     ensures usage { result ≡ 2 → HasUsage (command_of (map string_bytes words.now))
         (sink_course K.held K.faults sink.old sink.new) }
@@ -94,6 +105,8 @@ fn conduct<S: Source, K: Sink>(alloc: Global, words: &[String], source: &mut S, 
     ensures answer { Answers (command_of (map string_bytes words.now))
         (source_course S.left S.faults source.old source.new)
         (sink_course K.held K.faults sink.old sink.new) result }
+    ensures unread { is_reading (command_of (map string_bytes words.now)) ≡ false
+        → source.new ≡ source.old }
     ensures steady_source { IsSteady S.cannot_fail S.faults source.old source.new }
     ensures steady_sink { IsSteady K.cannot_fail K.faults sink.old sink.new }
 {
@@ -102,6 +115,9 @@ fn conduct<S: Source, K: Sink>(alloc: Global, words: &[String], source: &mut S, 
         Err(Misread::Form) => return write_notice(alloc, Notice::Usage, sink),
         Err(Misread::NoMemory) => return NO_MEMORY,
     };
+    if let Command::Sim(numbers) = command {
+        return run_simulation(alloc, &numbers, sink);
+    }
     match read_all(alloc, source) {
         Input::Whole(text) => carry_out(alloc, command, text.as_slice(), sink),
         Input::TooLarge => write_notice(alloc, Notice::TooLarge(LIMIT as u64 + 1), sink),

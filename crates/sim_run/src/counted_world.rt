@@ -11,7 +11,7 @@ ghost use Rattle.script_meaning.specs.Lines.{is_settling, settles, takes, takes_
 ghost use Rattle.sim_meaning.specs.Driver.{awaits_recovery, has_task, returned_in};
 ghost use Rattle.sim_run.specs.Counted.{NoneAwaits, after_event, counts, event_of, first_counted, leaves_counts};
 
-use crate::happened::{is_told_of, number_in, returns_in};
+use crate::happened::{is_told_of, number_in, returns_by, returns_in, tells_of_step};
 use crate::takers::Taker;
 use map_model::Call;
 use region_view::Shape;
@@ -288,7 +288,34 @@ impl CountedWorld {
         ensures counted { OnOk result (self.new ≡ after_event self.old (event_of taker)) }
         ensures told { IfOk result (λ told. told ≡ is_some (told_line self.old.world (comes_to self.old.world (event_of taker)))) }
     {
-        let happened = advance(taker.event(), &mut self.world)?;
+        match taker {
+            Taker::Client(client) => self.step(client),
+            Taker::Master => self.work(),
+        }
+    }
+
+    // A client takes its verb.
+    fn step(&mut self, client: u32) -> Result<bool, AllocError>
+        requires room { self.old.world.events < 2 ^ 63 }
+        requires lawful { refusal self.old.world (events.Step client) ≡ None }
+        ensures counted { OnOk result (self.new ≡ after_event self.old (events.Step client)) }
+        ensures told { IfOk result (λ told. told
+            ≡ is_some (told_line self.old.world (comes_to self.old.world (events.Step client)))) }
+    {
+        let step = self.world.step(client)?;
+        self.verbs += 1;
+        self.returned += returns_by(step);
+        Ok(tells_of_step(step))
+    }
+
+    // The master takes its task's verb.
+    fn work(&mut self) -> Result<bool, AllocError>
+        requires room { self.old.world.events < 2 ^ 63 }
+        requires lawful { refusal self.old.world events.Work ≡ None }
+        ensures counted { OnOk result (self.new ≡ after_event self.old events.Work) }
+        ensures told { IfOk result (λ told. told ≡ is_some (told_line self.old.world (comes_to self.old.world events.Work))) }
+    {
+        let happened = advance(Event::Work, &mut self.world)?;
         self.verbs += 1;
         self.returned += returns_in(happened);
         Ok(is_told_of(happened))
@@ -303,9 +330,5 @@ fn advance(event: Event, world: &mut World) -> Result<Happened, AllocError>
     ensures world { OnOk result (world.new ≡ happens world.old event) }
     ensures same { OnErr result (world.new ≡ world.old) }
 {
-    match world.advance(event) {
-        Ok(happened) => Ok(happened),
-        Err(Refused::NoMemory) => Err(AllocError),
-        Err(_) => unreachable!(),
-    }
+    world.carry_out(event)
 }

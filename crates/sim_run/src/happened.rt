@@ -65,7 +65,8 @@ pub(crate) fn is_told_of(happened: Happened) -> bool
     }
 }
 
-fn returns_by(step: Step) -> u64
+/// The same of a client's verb.
+pub(crate) fn returns_by(step: Step) -> u64
     ensures count { result ≡ (if is_ended step then 1 else 0) }
     ensures few { result ≤ 1 }
 {
@@ -76,7 +77,8 @@ fn returns_by(step: Step) -> u64
     }
 }
 
-fn tells_of_step(step: Step) -> bool
+/// Whether something is told of a client's verb.
+pub(crate) fn tells_of_step(step: Step) -> bool
     ensures { result ≡ tells_of_step step }
 {
     match step {

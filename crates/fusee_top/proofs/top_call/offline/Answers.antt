@@ -1,6 +1,6 @@
 use Rattle.std.proofs.Common.{map}
 use Rattle.std.specs.String.{string_bytes}
-use Rattle.fusee_top.proofs.OfflineLemmas.{HasBadLine-answers, HasReadFault-answers, HasUsage-answers, IsStatus-answers, IsTooLarge-answers, LeavesFront-answers, RanAudit-answers, RanLeases-answers, RanScript-answers, complete_by, decided_by, only_usage_of, write_fault_of}
+use Rattle.fusee_top.proofs.OfflineLemmas.{HasBadLine-answers, HasReadFault-answers, HasUsage-answers, IsStatus-answers, IsTooLarge-answers, LeavesFront-answers, RanAudit-answers, RanLeases-answers, RanScript-answers, complete_by, decided_by, only_usage_of, simulated-answers, write_fault_of}
 use Rattle.fusee_top.proofs.CommandLemmas.{AreTerms-named}
 use Rattle.fusee_top.proofs.top_call.offline.Goals as goal
 
@@ -12,6 +12,9 @@ returns-clause-audit g c = RanAudit-answers _ _ _ _ c.conduct.ensures.answer
 
 pub returns-clause-leases : goal.returns-clause-leases
 returns-clause-leases g c = λ done terms names. RanLeases-answers _ _ _ _ terms c.conduct.ensures.answer done names (AreTerms-named (map string_bytes c.args.words.now) terms names)
+
+pub returns-clause-sim : goal.returns-clause-sim
+returns-clause-sim g c = λ done numbers. simulated-answers _ _ _ _ numbers c.conduct.ensures.answer done
 
 pub returns-clause-usage : goal.returns-clause-usage
 returns-clause-usage g c = HasUsage-answers _ _ _ _ c.conduct.ensures.answer
