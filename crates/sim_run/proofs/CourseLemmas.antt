@@ -1,11 +1,10 @@
 -- The course of a simulation, piece by piece.
-use Rattle.std.proofs.Common.{◌≡◌, ℕ, zero, suc, ◌+◌, ◌*◌, ◌-◌, ◌/◌, ◌^◌, ◌<◌, ◌≤◌, Bool, true, false, not, ◌&&◌, List, [], ◌∷◌, ◌++◌, length, Option, Some, None, if◌then◌else◌, refl, sym, ap, ◌∙◌, subst, add_assoc, add-zero, arith}
+use Rattle.std.proofs.Common.{◌≡◌, ℕ, zero, suc, ◌+◌, ◌*◌, ◌-◌, ◌/◌, ◌^◌, ◌<◌, ◌≤◌, Bool, true, false, ◌&&◌, List, [], ◌∷◌, ◌++◌, length, Option, Some, None, if◌then◌else◌, refl, sym, ap, ◌∙◌, add_assoc, add-zero, arith}
 use Rattle.std.proofs.Math.Nat.{mul_assoc, mul-le-mul}
 use Rattle.std.specs.Prelude.{OnOk, Result, Ok, Err, is_none}
 use Rattle.std.specs.List.{list_all, range_with_len}
 use Rattle.std.specs.Option.{option_map_or}
 use Rattle.machine_world.proofs.EventLemmas.{refused}
-use Rattle.machine_world.specs.Events.{happens}
 use Rattle.machine_world.specs.Refusals.{refusal}
 use Rattle.machine_world.specs.Runs.{run_from}
 use Rattle.machine.specs.Client.{is_idle}
@@ -21,7 +20,7 @@ use Rattle.sim_plan.specs.Made.{seeded}
 use Rattle.script_meaning.specs.Lines.{Ran, calls, comes, meaning, only_calls, says_refused, unless_refused}
 use Rattle.script_text.specs.declared.out_lines.OutLine.{OutLine}
 use Rattle.script_text.specs.declared.out_lines.OutLine.TheVariants as out
-use Rattle.sim_meaning.proofs.CountLemmas.{IsWithin, acts-within, loses_if_due-within, recovers-within, registers-within, turn-within}
+use Rattle.sim_meaning.proofs.CountLemmas.{IsWithin, registers-within}
 use Rattle.sim_meaning.proofs.RoomLemmas.{run_from-counted}
 use Rattle.sim_meaning.proofs.RunLemmas.{IsRun, acts-run, carried, followed, loses_if_due-run, recovers-run, registers-run, turn-run}
 use Rattle.sim_meaning.proofs.VerbLemmas.{verbs_in-append}

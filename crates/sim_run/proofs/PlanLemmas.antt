@@ -1,5 +1,5 @@
 -- The plans of the clients.
-use Rattle.std.proofs.Common.{◌≡◌, ℕ, ◌+◌, ◌-◌, ◌<◌, ◌≤◌, List, [], ◌∷◌, ◌++◌, length, map, get_or, refl, sym, ap, ◌∙◌, arith}
+use Rattle.std.proofs.Common.{◌≡◌, ℕ, ◌+◌, ◌-◌, ◌≤◌, List, [], ◌∷◌, ◌++◌, length, map, get_or, sym, ap, ◌∙◌, arith}
 use Rattle.std.specs.List.{range_with_len}
 use Rattle.std.specs.Global.{Vec}
 use Rattle.std.proofs.lemmas.List.{get_or-map, length-map, map-append}
@@ -7,7 +7,7 @@ use Rattle.std.proofs.lemmas.List.FromFn.{get_or-map-range_with_len, length-map-
 use Rattle.map_model.specs.declared.calls.Call.{Call}
 use Rattle.sim_meaning.specs.declared.numbers.Numbers.{Numbers}
 use Rattle.sim_plan.specs.Made.{plan}
-use Rattle.sim_run.specs.Course.{IsPlanned, plans_of}
+use Rattle.sim_run.specs.Course.{IsPlanned}
 use Rattle.sim_run.specs.declared.works.Work.{Work}
 
 -- as many plans as clients

@@ -1,6 +1,6 @@
 -- Rows of verbs and tasks, with the number of their verbs.
-use Rattle.std.proofs.Common.{◌≡◌, ℕ, zero, suc, ◌+◌, ◌-◌, ◌<◌, ◌≤◌, Bool, true, false, ◌&&◌, List, [], ◌∷◌, ◌++◌, length, Option, Some, None, if◌then◌else◌, refl, sym, ap, ◌∙◌, subst, add_assoc, add-zero, zero-add, arith, length-set}
-use Rattle.std.specs.Prelude.{is_some, nat_lt, slice_set}
+use Rattle.std.proofs.Common.{◌≡◌, ℕ, zero, suc, ◌+◌, ◌-◌, ◌<◌, Bool, true, false, ◌&&◌, List, [], ◌∷◌, length, Option, Some, None, if◌then◌else◌, refl, sym, ap, ◌∙◌, add_assoc, add-zero, arith, length-set}
+use Rattle.std.specs.Prelude.{is_some, nat_lt}
 use Rattle.std.specs.Option.{option_map_or}
 use Rattle.std.proofs.lemmas.Bool.Decides.{nat_tests}
 use Rattle.kv_ops.proofs.KeptLemmas.{turn-kept}
@@ -32,10 +32,10 @@ use Rattle.machine_world.specs.declared.outcomes.Happened.{Happened}
 use Rattle.machine_world.specs.declared.outcomes.Happened.TheVariants as happened
 use Rattle.machine_world.specs.declared.outcomes.Refused.{Refused}
 use Rattle.machine_world.specs.declared.outcomes.Refused.TheVariants as refused
-use Rattle.script_meaning.specs.Lines.{Ran, client_of, comes, followed_by, is_settling, line_of_joining, line_of_recovery, line_of_settling, line_of_step, most_verbs, prints, says_refused, settles, subject_of, taker_of, takes, takes_one, takes_up_to, told_line, verb_lines, works_on as works_through}
+use Rattle.script_meaning.specs.Lines.{Ran, client_of, comes, followed_by, is_settling, line_of_joining, line_of_recovery, line_of_settling, line_of_step, most_verbs, prints, says_refused, settles, subject_of, taker_of, takes, takes_up_to, told_line, verb_lines, works_on as works_through}
 use Rattle.script_text.specs.declared.out_lines.OutLine.{OutLine}
 use Rattle.script_text.specs.declared.out_lines.OutLine.TheVariants as out
-use Rattle.sim_meaning.specs.Summary.{is_verb, verbs_at, verbs_in}
+use Rattle.sim_meaning.specs.Summary.{verbs_at, verbs_in}
 use Rattle.sim_run.specs.Counted.{Counted, after_event, counts, event_of}
 use Rattle.sim_run.specs.Told.{is_told_of, tells_of_joining, tells_of_recovery, tells_of_settling, tells_of_step}
 use Rattle.sim_run.specs.declared.takers.Taker.{Taker}

@@ -1,5 +1,5 @@
 -- A world in which verbs are counted, and what is kept beside it.
-use Rattle.std.specs.Prelude.{ℕ, ◌+◌, ◌≤◌, ◌≡◌, Bool, true, false, List, [], length, slice_index_or}
+use Rattle.std.specs.Prelude.{ℕ, ◌+◌, ◌≤◌, ◌≡◌, Bool, true, false, List, length, slice_index_or}
 use Rattle.machine_world.specs.Events.{happens}
 use Rattle.machine_world.specs.World.{World, client_at, first_world, is_registered, is_stopped}
 use Rattle.machine_world.specs.declared.events.Event.{Event}

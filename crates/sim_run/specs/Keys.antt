@@ -1,9 +1,9 @@
 -- Which entries leave a value at their key: each is looked at after those that come after it.
-use Rattle.std.specs.Prelude.{ℕ, zero, ◌+◌, Bool, true, false, ◌&&◌, if◌then◌else◌, List, [], ◌∷◌, is_none}
+use Rattle.std.specs.Prelude.{ℕ, ◌+◌, Bool, true, false, ◌&&◌, if◌then◌else◌, List, [], ◌∷◌, is_none}
 use Rattle.machine_world.specs.Calls.{key_of}
 use Rattle.map_model.specs.Map.{Map, empty_map, with_key}
 use Rattle.map_model.specs.declared.calls.Call.{Call}
-use Rattle.map_model.specs.declared.calls.Call.TheVariants.{Get, Put, Delete}
+use Rattle.map_model.specs.declared.calls.Call.TheVariants.{Put, Delete}
 use Rattle.map_model.specs.declared.calls.Reply.{Reply}
 use Rattle.map_model.specs.declared.calls.Reply.TheVariants.{Done}
 use Rattle.map_model.specs.declared.entries.Entry.{Entry}

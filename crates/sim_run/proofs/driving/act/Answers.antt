@@ -1,7 +1,7 @@
-use Rattle.std.proofs.Common.{true, false, sym, ap, ◌∙◌, arith}
+use Rattle.std.proofs.Common.{true, false, sym, ◌∙◌, arith}
 use Rattle.sim_meaning.proofs.CountLemmas.{invokes-within}
 use Rattle.sim_meaning.proofs.RunLemmas.{invokes-run}
-use Rattle.sim_meaning.specs.Driver.{followed_by, invokes, is_passed_over, rests, steps}
+use Rattle.sim_meaning.specs.Driver.{invokes, is_passed_over, rests, steps}
 use Rattle.sim_run.proofs.CourseLemmas.{goes-events, goes-followed, goes-if, goes-rests, on-ok}
 use Rattle.sim_run.specs.Course.{course_of}
 use Rattle.sim_run.proofs.driving.act.Goals as goal

@@ -1,4 +1,4 @@
-use Rattle.std.proofs.Common.{false, None, Some, sym, ap, ◌∙◌}
+use Rattle.std.proofs.Common.{false, Some, sym, ap, ◌∙◌}
 use Rattle.std.specs.Prelude.{option_map, slice_get}
 use Rattle.machine.specs.Client.{is_idle}
 use Rattle.machine_world.specs.World.{client_at}

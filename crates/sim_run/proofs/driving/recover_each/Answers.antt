@@ -1,4 +1,4 @@
-use Rattle.std.proofs.Common.{◌+◌, ◌*◌, ◌-◌, ◌^◌, sym, ap, ◌∙◌, arith}
+use Rattle.std.proofs.Common.{◌+◌, ◌-◌, ◌^◌, sym, ap, ◌∙◌, arith}
 use Rattle.sim_meaning.proofs.CountLemmas.{recovers-within}
 use Rattle.sim_meaning.proofs.RunLemmas.{recovers-run}
 use Rattle.sim_meaning.specs.Driver.{clients_of, recovers}

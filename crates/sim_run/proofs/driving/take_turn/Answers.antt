@@ -1,4 +1,4 @@
-use Rattle.std.proofs.Common.{◌+◌, ◌*◌, arith}
+use Rattle.std.proofs.Common.{arith}
 use Rattle.sim_meaning.proofs.CountLemmas.{acts-within, loses_if_due-within}
 use Rattle.sim_meaning.proofs.RunLemmas.{acts-run, loses_if_due-run}
 use Rattle.sim_meaning.specs.Driver.{acts, loses_if_due}

@@ -1,4 +1,4 @@
-use Rattle.std.proofs.Common.{◌≡◌, ◌-◌, drop, refl, sym, ap, ◌∙◌, arith}
+use Rattle.std.proofs.Common.{◌≡◌, drop, ap, ◌∙◌, arith}
 use Rattle.map_model.specs.Held.{map_of}
 use Rattle.sim_run.proofs.KeysLemmas.{decided-back, left-back, values-left}
 use Rattle.sim_run.specs.Keys.{values_left}

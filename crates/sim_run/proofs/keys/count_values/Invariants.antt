@@ -1,4 +1,4 @@
-use Rattle.std.proofs.Common.{◌≡◌, ◌+◌, drop, ◌≤◌, length, ◌-◌}
+use Rattle.std.proofs.Common.{◌≡◌, ◌+◌, drop, ◌≤◌, length}
 use Rattle.map_model.specs.Held.{map_of}
 use Rattle.sim_run.specs.Keys.{decided_by, values_left}
 use Rattle.sim_run.proofs.keys.count_values.Given as goal

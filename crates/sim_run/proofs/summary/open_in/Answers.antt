@@ -1,4 +1,4 @@
-use Rattle.std.proofs.Common.{◌+◌, Bool, sym, ap, ◌∙◌, arith}
+use Rattle.std.proofs.Common.{Bool, sym, ap, ◌∙◌, arith}
 use Rattle.std.specs.Prelude.{count_by}
 use Rattle.sim_meaning.specs.Summary.{is_open}
 use Rattle.sim_run.proofs.CountLemmas.{count-map, count-more}

@@ -1,4 +1,4 @@
-use Rattle.std.proofs.Common.{refl, sym, ap, ◌∙◌}
+use Rattle.std.proofs.Common.{sym, ap, ◌∙◌}
 use Rattle.sim_run.proofs.CourseLemmas.{on-ok}
 use Rattle.sim_run.proofs.TakesLemmas.{lawful-now, row-taken, row-unless}
 use Rattle.sim_run.specs.Counted.{Counted, event_of}
