@@ -1,9 +1,9 @@
-use Rattle.std.proofs.Common.{◌≡◌, ap, refl, sym, ◌∙◌, None, [], false}
+use Rattle.std.proofs.Common.{◌≡◌, ap, refl, sym, ◌∙◌, None, []}
 use Rattle.std.specs.Prelude.{not}
 use Rattle.machine.specs.Client.{told}
 use Rattle.machine_world.specs.Events.{moments_of}
 use Rattle.verb_words.specs.Applied.{answer_to}
-use Rattle.world_core.specs.Steps.{answer_for, ledger_for}
+use Rattle.world_core.specs.Steps.{ledger_for}
 use Rattle.world_core.proofs.StepLemmas.{IsNoted, ended-ends, ledger-noted, moments-told, own_stays, swap_of}
 use Rattle.world_core.proofs.steps.take_plain_verb.Goals as goal
 
