@@ -1,6 +1,6 @@
 //! The program: `fusee_run script` reads a script from standard input, and writes its trace and its
 //! history to standard output. `fusee_run audit` reads such an output, and `fusee_run leases` lease
-//! lines.
+//! lines; `fusee_run sim` makes a run from numbers, and writes its summary.
 #![tactic(auto)]
 
 use fusee_top::offline;

@@ -29,6 +29,7 @@ impl Work {
             plans,
         })
     }
+
     /// The client's call after so many.
     pub(crate) fn call(&self, client: u32, made: u32) -> Option<&Call>
         requires planned { IsPlanned self.now }
