@@ -172,10 +172,10 @@ fn after_a_fault_at_any_verb_each_block_and_object_is_accounted_for(
 }
 
 // The last count of an output has one key's object, none that is held, and no block that awaits a
-// recovery; each unit of the granted blocks is an object.
+// recovery; each of the 64 units of a granted block is an object.
 fn check_last_count(rt: &(impl Abort + AllocGlobal), output: &[u8]) -> Result<(), AllocError> {
     assert!(rt; output.len() <= 4_194_304);
-    let mut granted = 0;
+    let mut units = 0;
     let mut counted = 0;
     let Ok(lines) = parse_output(rt.alloc(), output) else {
         panic!(rt; "the output has a bad line");
@@ -189,7 +189,7 @@ fn check_last_count(rt: &(impl Abort + AllocGlobal), output: &[u8]) -> Result<()
                 ..
             } => {
                 assert_eq!(rt; *awaiting, 0);
-                granted = u64::from(*owned) + u64::from(*released);
+                units = 64 * (u64::from(*owned) + u64::from(*released));
             }
             OutLine::Objects {
                 stock,
@@ -202,7 +202,7 @@ fn check_last_count(rt: &(impl Abort + AllocGlobal), output: &[u8]) -> Result<()
             _ => {}
         }
     }
-    assert!(rt; granted > 0);
-    assert_eq!(rt; counted, 64 * granted);
+    assert!(rt; units > 0);
+    assert_eq!(rt; counted, units);
     Ok(())
 }
