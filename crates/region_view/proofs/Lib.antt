@@ -1,4 +1,5 @@
 pub mod ControlLemmas
+pub mod FirstLemmas
 pub mod LayoutLemmas
 pub mod OpeningLemmas
 pub mod PlacedLemmas

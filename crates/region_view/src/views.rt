@@ -1,4 +1,4 @@
-ghost use Rattle.std.specs.Prelude.{◌≡◌, ◌+◌, ◌*◌, ◌<◌, ◌≤◌, ◌^◌, ℕ, true, false, IfNone, IfSome, IsTrue, MatchBool, length};
+ghost use Rattle.std.specs.Prelude.{◌≡◌, ◌+◌, ◌*◌, ◌%◌, ◌<◌, ◌≤◌, ◌^◌, ℕ, true, false, IfNone, IfSome, IsTrue, MatchBool, length, slice_index_or};
 ghost use Rattle.region_view.specs.Placed.{HasReplica, IsBare, LeavesNoneBare, Viewed, in_mask, placed_node, region_size, region_start, replicas_of};
 ghost use Rattle.region_view.specs.Places.{slot_places_of, word_places_of};
 
@@ -74,14 +74,60 @@ fn in_mask(mask: u8, node: u32) -> bool
     (mask >> (node - 1)) % 2 == 1
 }
 
-fn placed_node(shape: &Shape, region: u32, i: u32) -> u32
+/// The i-th node, counted from 0, that a region is placed on, whatever the mask.
+pub fn placed_node(shape: &Shape, region: u32, i: u32) -> u32
     requires region { region ≤ 63 }
-    requires i { i < 5 }
+    requires i { i ≤ 5 }
     ensures node { result ≡ placed_node shape.now region i }
     ensures least { 1 ≤ result }
-    ensures most { result ≤ 8 }
+    ensures most { result ≤ shape.now.nodes }
+    ensures few { result ≤ 8 }
 {
-    (region + i) % shape.nodes + 1
+    remainder(region + i, shape.nodes) + 1
+}
+
+// Each number of nodes has an arm of its own, since a division by a constant is a multiplication.
+fn remainder(number: u32, nodes: u32) -> u32
+    requires { 1 ≤ nodes }
+    ensures { result ≡ number % nodes }
+{
+    match nodes {
+        1 => 0,
+        2 => number % 2,
+        3 => number % 3,
+        4 => number % 4,
+        5 => number % 5,
+        6 => number % 6,
+        7 => number % 7,
+        8 => number % 8,
+        _ => number % nodes,
+    }
+}
+
+/// The primary of a region: the first of its nodes that is in the view's mask.
+pub fn primary(view: &View, region: u32) -> u32
+    requires { region ≤ view.now.shape.regions }
+    ensures { result ≡ slice_index_or (replicas_of view.now region) 0 0 }
+{
+    let View { shape, mask } = *view;
+    for i in 0..shape.replicas {
+        let node = placed_node(&shape, region, i);
+        if in_mask(mask, node) {
+            return node;
+        }
+    }
+    0
+}
+
+/// Node and position of a region's word on the region's primary.
+pub fn word_place(view: &View, region: u32, offset: u32) -> (u32, u32)
+    requires region { region ≤ view.now.shape.regions }
+    requires offset { offset < region_size view.now.shape region }
+    ensures node { result.0 ≡ slice_index_or (replicas_of view.now region) 0 0 }
+    ensures at { result.1 ≡ region_start view.now.shape region + offset }
+{
+    let at = region_start(&view.shape, region) + offset;
+    (primary(view, region), at)
 }
 
 /// The nodes of a region that are in the view's mask, the primary first.

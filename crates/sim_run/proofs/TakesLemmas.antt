@@ -233,11 +233,20 @@ refusing : (world : World) (event : Event) (reason : Option Refused) (test : Boo
 refusing world event None test is some there = let bad : false ≡ true = sym some ∙ there in absurd cc
 refusing world event (Some why) test is some there = (why, sym is)
 
-pub row-unless : (before : Counted) (event found : Event) (world : World) (reason : Option Refused) (test : Bool) (most : ℕ) → world ≡ before.world → found ≡ event → reason ≡ refusal world found → test ≡ is_some reason → test ≡ true
+pub lawful-if : (world : World) (event : Event) (may : Bool) → may ≡ is_none (refusal world event) → may ≡ true → refusal world event ≡ None
+lawful-if world event may is yes = by (refusal world event) refl
+  where
+    by : (r : Option Refused) → refusal world event ≡ r → refusal world event ≡ None
+    by None none = none
+    by (Some why) some = let bad : true ≡ false = sym yes ∙ is ∙ ap is_none some in absurd cc
+
+pub row-unless : (before : Counted) (event : Event) (most : ℕ) (may : Bool) → may ≡ is_none (refusal before.world event) → may ≡ false
     → before ≡ counts before (takes_up_to most false event before.world)
-row-unless before event found world reason test most same is why some there =
-    let refused = refusing before.world event reason test (why ∙ (λ i. refusal (same i) (is i))) some there in
-    sym (row-refused before event refused.0 most refused.1)
+row-unless before event most may is no = by (refusal before.world event) refl
+  where
+    by : (r : Option Refused) → refusal before.world event ≡ r → before ≡ counts before (takes_up_to most false event before.world)
+    by None none = let bad : true ≡ false = sym (is ∙ ap is_none none) ∙ no in absurd cc
+    by (Some why) some = sym (row-refused before event why most some)
 
 pub task-unless : (before : Counted) (task : Task) (world : World) (reason : Option Refused) (test : Bool) → world ≡ before.world → reason ≡ refusal world (event.Choose task) → test ≡ is_some reason → test ≡ true
     → before ≡ counts before (works_through false before.world task)

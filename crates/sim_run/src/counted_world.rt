@@ -1,6 +1,6 @@
 // The world of a simulation, and counts beside it that spare each turn a look through its past.
 
-ghost use Rattle.std.specs.Prelude.{◌≡◌, ◌+◌, ◌<◌, ◌≤◌, ◌^◌, IfOk, None, OnErr, OnOk, is_some, true, false};
+ghost use Rattle.std.specs.Prelude.{◌≡◌, ◌+◌, ◌<◌, ◌≤◌, ◌^◌, IfOk, None, OnErr, OnOk, is_none, is_some, true, false};
 ghost use Rattle.machine.specs.Client.{is_idle};
 ghost use Rattle.machine_world.specs.Events.{comes_to, happens};
 ghost use Rattle.machine_world.specs.Refusals.{refusal};
@@ -17,7 +17,7 @@ use map_model::Call;
 use region_view::Shape;
 use std::alloc::{AllocError, Global};
 use std::marker::Model;
-use world_core::{Event, Happened, Refused, Task, World};
+use world_core::{Event, Happened, Task, World};
 
 /// A task takes so many verbs at most.
 const MOST_VERBS: u64 = 4_294_967_296;
@@ -96,29 +96,22 @@ impl CountedWorld {
     pub(crate) fn is_idle(&self, client: u32) -> bool
         ensures { result ≡ is_idle (client_at self.now.world client) }
     {
-        self.world.has_returned(client, self.number(client))
+        let _kept = self.awaits;
+        self.world.is_idle(client)
     }
 
     pub(crate) fn is_stopped(&self, client: u32) -> bool
         ensures { result ≡ is_stopped self.now.world client }
     {
         let _kept = self.awaits;
-        matches!(
-            self.world.refusal(&Event::Stop { client }),
-            Some(Refused::Stopped(_))
-        )
+        self.world.is_stopped(client)
     }
 
-    /// Whether the client, which is stopped, is recovered.
     pub(crate) fn is_recovered(&self, client: u32) -> bool
-        requires { is_stopped self.now.world client ≡ true }
         ensures { result ≡ is_among client self.now.world.master.recovered }
     {
         let _kept = self.awaits;
-        matches!(
-            self.world.refusal(&Event::Choose(Task::Recover(client))),
-            Some(Refused::Recovered(_))
-        )
+        self.world.is_recovered(client)
     }
 
     /// Whether the client is stopped and not yet recovered.
@@ -259,10 +252,21 @@ impl CountedWorld {
         requires { self.old.world.events + most ≤ 2 ^ 63 }
         ensures { OnOk result (self.new ≡ counts self.old (takes_up_to most false (event_of taker) self.old.world)) }
     {
-        if self.world.refusal(&taker.event()).is_some() {
+        if !self.may_take(taker) {
             return Ok(());
         }
         self.take(most, taker)
+    }
+
+    // Whether the taker's next verb is not refused.
+    fn may_take(&self, taker: Taker) -> bool
+        ensures { result ≡ is_none (refusal self.now.world (event_of taker)) }
+    {
+        let _kept = self.awaits;
+        match taker {
+            Taker::Client(client) => self.world.may_step(client),
+            Taker::Master => self.world.refusal(&Event::Work).is_none(),
+        }
     }
 
     // Takes verbs where the first is not refused. None of the later ones is, since something would have

@@ -48,7 +48,7 @@ fn main_bucket(hash: u64, groups: u32) -> u32
     ensures bucket { result ≡ specs.main_bucket groups hash }
     ensures below { result < 2 * groups }
 {
-    ((hash >> 32) % (2 * groups as u64)) as u32
+    (hash >> 32) as u32 % (2 * groups)
 }
 
 /// The slots of one main bucket and its overflow bucket, then those of another that are new.

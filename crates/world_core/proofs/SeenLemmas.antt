@@ -32,13 +32,22 @@ none-returned number = by (nat_lt number 0) refl (number == 0) refl
     by false none true is = rw (none, is) refl
     by false none false is = rw (none, is) refl
 
+-- the client of a number that is not registered
+unknown-client : (world : World) (clients : List Client) (client : ℕ) → world.clients ≡ nobody world.shape ∷ clients → is_registered world client ≡ false
+    → client_at world client ≡ nobody world.shape
+unfolding client_at
+unknown-client world clients client all unknown =
+    let found = nobody-else (nobody world.shape) clients client (ap (λ list. nat_lt 0 client && nat_lt client (length list)) (sym all) ∙ unknown) in
+    ap (λ list. slice_index_or list client (nobody world.shape)) all ∙ found
+
+pub nobody-idle : (world : World) (clients : List Client) (client : ℕ) → world.clients ≡ nobody world.shape ∷ clients → is_registered world client ≡ false
+    → true ≡ is_idle (client_at world client)
+nobody-idle world clients client all unknown = ap is_idle (sym (unknown-client world clients client all unknown))
+
 pub nobody-returned : (world : World) (clients : List Client) (client number : ℕ) → world.clients ≡ nobody world.shape ∷ clients → is_registered world client ≡ false
     → nat_eq number 0 ≡ has_returned world client number
-unfolding client_at
 nobody-returned world clients client number all unknown =
-    let found = nobody-else (nobody world.shape) clients client (ap (λ list. nat_lt 0 client && nat_lt client (length list)) (sym all) ∙ unknown) in
-    let same : client_at world client ≡ nobody world.shape = ap (λ list. slice_index_or list client (nobody world.shape)) all ∙ found in
-    none-returned number ∙ ap (λ (me : Client). nat_lt number me.number || ((number == me.number) && is_idle me)) (sym same)
+    none-returned number ∙ ap (λ (me : Client). nat_lt number me.number || ((number == me.number) && is_idle me)) (sym (unknown-client world clients client all unknown))
 
 -- the calls in their order, each as an entry, are the history
 pub history-listed : {X : Type 0} (world : World) (order : List X) (entered : X → Entered) → map entered order ≡ in_order world.ledger.entries

@@ -1,10 +1,12 @@
 //! What is read of the world: its words, its past, and where blocks and objects are.
 
 ghost use Rattle.std.specs.Prelude.{◌≡◌, ◌+◌, ◌<◌, ◌≤◌, IfOk, length, map};
+ghost use Rattle.machine.specs.Client.{is_idle};
 ghost use Rattle.machine_world.specs.Events.{client_bits};
 ghost use Rattle.machine_world.specs.Ledger.{entry_of, history_of, in_order};
 ghost use Rattle.machine_world.specs.Readings.{block_state, division_of, has_returned, object_state};
 ghost use Rattle.machine_world.specs.Standing.{node_sizes};
+ghost use Rattle.machine_world.specs.World.{client_at, is_among};
 ghost use Rattle.verb_history.specs.Moments.{moment_of};
 ghost use Rattle.verb_history.specs.Points.{entered_of};
 ghost use Rattle.world_core.specs.Told.{awaited_by, task_in};
@@ -88,6 +90,24 @@ impl World {
         ensures { IfOk result (λ order. map (λ one. entered_of one.now) order.items ≡ in_order self.now.ledger.entries) }
     {
         self.ledger.in_order()
+    }
+
+    /// Whether the client is stopped and recovered.
+    pub fn is_recovered(&self, client: u32) -> bool
+        ensures { result ≡ is_among client self.now.master.recovered }
+    {
+        self.recovered.has(client)
+    }
+
+    /// Whether no call of the client is open.
+    pub fn is_idle(&self, client: u32) -> bool
+        ensures { result ≡ is_idle (client_at self.now client) }
+    {
+        let _clients = &self.clients;
+        if !self.is_registered(client) {
+            return true;
+        }
+        self.client(client).is_idle()
     }
 
     /// Whether the client's call of this number has returned.

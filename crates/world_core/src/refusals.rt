@@ -1,8 +1,9 @@
-ghost use Rattle.std.specs.Prelude.{◌≡◌, ◌≤◌, None, length, true};
+ghost use Rattle.std.specs.Prelude.{◌≡◌, ◌≤◌, None, is_none, length, true};
 ghost use Rattle.machine.specs.Client.{refusal as refusal_of_call};
 ghost use Rattle.machine_world.specs.Calls.{key_of, value_of};
 ghost use Rattle.machine_world.specs.Refusals.{is_node, of_all, of_call, of_client, of_late, of_lengths, of_loss, of_outside, of_recovery, of_seal, of_step, of_task, of_work, refusal};
 ghost use Rattle.machine_world.specs.World.{is_registered};
+ghost use Rattle.machine_world.specs.declared.events.Event.TheVariants as event;
 ghost use Rattle.region_view.specs.Placed.{in_mask};
 
 use crate::worlds::{Working, World};
@@ -29,6 +30,13 @@ impl World {
             Event::Choose(task) => self.of_task(*task),
             Event::Work => self.of_work(),
         }
+    }
+
+    /// Whether the client may take its next verb.
+    pub fn may_step(&self, client: u32) -> bool
+        ensures { result ≡ is_none (refusal self.now (event.Step client)) }
+    {
+        self.of_step(client).is_none()
     }
 
     fn of_all(&self) -> Option<Refused>

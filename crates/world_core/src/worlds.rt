@@ -102,7 +102,8 @@ impl World {
         0 < client && (client as usize) < self.clients.len() + 1
     }
 
-    pub(crate) fn is_stopped(&self, client: u32) -> bool
+    /// Whether the client is stopped.
+    pub fn is_stopped(&self, client: u32) -> bool
         ensures { result ≡ is_stopped self.now client }
     {
         self.stopped.has(client)

@@ -7,7 +7,7 @@ ghost use Rattle.region_view.specs.Layout.{NodeWord, offset_of, region_of_word};
 ghost use Rattle.region_view.specs.Placed.{in_mask, placed_node, region_start, replicas_of};
 ghost use Rattle.verb_words.specs.Words.{HasPlace, is_lost};
 
-use region_view::Shape;
+use region_view::{Shape, placed_node};
 use verb_words::{Nodes, Place};
 
 /// The epoch word, whatever it says.
@@ -68,16 +68,6 @@ fn first_in_mask(shape: &Shape, mask: u8, region: u32) -> u32
         }
     }
     placed_node(&shape, region, 0)
-}
-
-pub(crate) fn placed_node(shape: &Shape, region: u32, i: u32) -> u32
-    requires region { region ≤ 63 }
-    requires i { i ≤ 5 }
-    ensures node { result ≡ placed_node shape.now region i }
-    ensures least { 1 ≤ result }
-    ensures most { result ≤ shape.now.nodes }
-{
-    (region + i) % shape.nodes + 1
 }
 
 pub(crate) fn in_mask(mask: u8, node: u32) -> bool

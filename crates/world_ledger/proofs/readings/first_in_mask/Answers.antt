@@ -1,7 +1,7 @@
 use Rattle.std.proofs.Common.{◌≡◌, ℕ, Bool, true, ap, sym, subst, ◌∙◌, rules, arith}
 use Rattle.region_view.specs.Placed.{in_mask, placed_node}
 use Rattle.region_view.specs.Sizes.{Sizes}
-use Rattle.world_ledger.proofs.ListLemmas.{first_kept, none_kept}
+use Rattle.region_view.proofs.FirstLemmas.{first_kept, none_kept}
 use Rattle.world_ledger.proofs.readings.first_in_mask.Goals as goal
 
 pub returns-then-in_mask-clause-first : goal.returns-then-in_mask-clause-first
