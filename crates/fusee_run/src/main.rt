@@ -6,11 +6,17 @@
 use fusee_top::offline;
 use outside::{StdSink, StdSource};
 use std::env;
-use std::io::ErrorKind;
+use std::io::{BufWriter, ErrorKind, Write};
 use std::process::ExitCode;
+
+// The status of a write fault.
+const WRITE_FAULT: u8 = 5;
 
 // The status of want of memory.
 const NO_MEMORY: u8 = 6;
+
+// How many bytes are written at once.
+const BUFFER: usize = 65_536;
 
 fn main(rt: HostRuntime) -> ExitCode {
     let mut words = Vec::new(rt.alloc());
@@ -31,6 +37,14 @@ fn main(rt: HostRuntime) -> ExitCode {
         }
     }
     let mut source = StdSource::new(rt.stdin());
-    let mut sink = StdSink::new(rt.stdout());
-    ExitCode::from(offline(rt.alloc(), &words, &mut source, &mut sink))
+    let Ok(mut writer) = BufWriter::with_capacity(rt.alloc(), BUFFER, rt.stdout()) else {
+        return ExitCode::from(NO_MEMORY);
+    };
+    let mut sink = StdSink::new(&mut writer);
+    let status = offline(rt.alloc(), &words, &mut source, &mut sink);
+    // What is left in the buffer is written now, and a failure of that is one of a write.
+    match writer.flush() {
+        Ok(()) => ExitCode::from(status),
+        Err(_) => ExitCode::from(WRITE_FAULT),
+    }
 }

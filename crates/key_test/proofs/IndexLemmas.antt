@@ -1,5 +1,5 @@
 -- The places of slots on the primary of the index.
-use Rattle.std.proofs.Common.{◌≡◌, ℕ, ◌+◌, ◌<◌, List, [], ◌∷◌, length, get_or, sym, ap, subst, arith}
+use Rattle.std.proofs.Common.{◌≡◌, ℕ, ◌+◌, ◌<◌, List, [], ◌∷◌, length, get_or, ap, arith}
 use Rattle.machine.specs.EpochRead.{IsView}
 use Rattle.machine.specs.Places.{place_at, slot_primary, with_shadow}
 use Rattle.machine.proofs.PlacesLemmas.{replicas_of-some}
@@ -16,10 +16,5 @@ with_shadow-first sizes slot (node ∷ other ∷ nodes) some =
     let first : 0 + slot ≡ slot = omega arith in
     ap (λ (at : ℕ). record { node = node; at = at }) first
 
-pub slot_primary-is : (view : Viewed) (slot : ℕ) (nodes : List ℕ) → IsView view → nodes ≡ replicas_of view 0 → slot_primary view slot ≡ record { node = get_or nodes 0 0; at = slot }
-slot_primary-is view slot nodes is are =
-    let P : List ℕ → Type 0 = λ l. slot_primary view slot ≡ record { node = get_or l 0 0; at = slot } in
-    subst P (sym are) (with_shadow-first view.shape slot (replicas_of view 0) (replicas_of-some view 0 is (omega arith)))
-
-pub index_nodes-some : (view : Viewed) (nodes : List ℕ) → IsView view → nodes ≡ replicas_of view 0 → 0 < length nodes
-index_nodes-some view nodes is are = omega (arith, ap length are, replicas_of-some view 0 is (omega arith))
+pub slot_primary-is : (view : Viewed) (slot : ℕ) → IsView view → slot_primary view slot ≡ record { node = get_or (replicas_of view 0) 0 0; at = slot }
+slot_primary-is view slot is = with_shadow-first view.shape slot (replicas_of view 0) (replicas_of-some view 0 is (omega arith))

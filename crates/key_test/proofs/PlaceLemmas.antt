@@ -1,6 +1,6 @@
 -- The place of an object's words on the primary of its region.
 use Rattle.std.proofs.Common.{◌≡◌, ℕ, ◌+◌, ◌*◌, ◌^◌, ◌<◌, ◌≤◌, inl, inr, List, length, get_or, refl, ap, ◌∙◌, arith}
-use Rattle.std.proofs.lemmas.List.{get_or-map, length-map}
+use Rattle.std.proofs.lemmas.List.{get_or-map}
 use Rattle.std.proofs.lemmas.Nat.{mul-le}
 use Rattle.machine.specs.Places.{object_word, place_of_home, primary_place, IsInPool}
 use Rattle.machine.specs.EpochRead.{IsView}
@@ -8,7 +8,6 @@ use Rattle.machine.proofs.PlacesLemmas.{primary_place-inside, replicas_of-some}
 use Rattle.pointer_fields.specs.Pointer.{region_of, unit_of}
 use Rattle.region_view.specs.Layout.{HasWord, NodeWord, Slot, position_of, region_of_word}
 use Rattle.region_view.specs.Placed.{Viewed, region_start, replicas_of}
-use Rattle.region_view.specs.Places.{word_places_of}
 use Rattle.region_view.specs.Sizes.{IsWithinLimits, Sizes, node_words}
 use Rattle.verb_words.specs.declared.verbs.Place.{Place}
 
@@ -18,25 +17,13 @@ primary_place-is : (view : Viewed) (word : NodeWord) → 0 < length (replicas_of
 primary_place-is view word some =
     ap (place_of_home view.shape) (get_or-map (λ node. (node, word)) (replicas_of view (region_of_word word)) 0 0 (0, Slot 0) some)
 
--- the first of an object's places at hand is that of its first word, and the others stand behind it
-pub object_place-is : (view : Viewed) (pointer i : ℕ) (items : List (ℕ × ℕ)) → IsView view → region_of pointer ≤ view.shape.regions
-    → items ≡ word_places_of view (region_of pointer) (8 * unit_of pointer)
-    → primary_place view (object_word pointer i) ≡ record { node = (get_or items 0 (0, 0)).0; at = (get_or items 0 (0, 0)).1 + i }
-object_place-is view pointer i items is within are =
-    let nodes = replicas_of view (region_of pointer) in
-    let start = region_start view.shape (region_of pointer) in
-    let some = replicas_of-some view (region_of pointer) is within in
-    let first : get_or items 0 (0, 0) ≡ (get_or nodes 0 0, start + 8 * unit_of pointer) =
-    ap (λ l. get_or l 0 (0, 0)) are ∙ get_or-map (λ node. (node, start + 8 * unit_of pointer)) nodes 0 0 (0, 0) some in
-    let at : position_of view.shape (object_word pointer i) ≡ start + 8 * unit_of pointer + i = omega arith in
-    primary_place-is view (object_word pointer i) some ∙ rw (at, first) refl
-
--- there is one
-pub object_places-some : (view : Viewed) (pointer : ℕ) (items : List (ℕ × ℕ)) → IsView view → region_of pointer ≤ view.shape.regions
-    → items ≡ word_places_of view (region_of pointer) (8 * unit_of pointer) → 0 < length items
-object_places-some view pointer items is within are =
-    let at = region_start view.shape (region_of pointer) + 8 * unit_of pointer in
-    omega (arith, ap length are, length-map {B = ℕ × ℕ} (replicas_of view (region_of pointer)) (λ node. (node, at)), replicas_of-some view (region_of pointer) is within)
+-- where an object's first word stands, and the others behind it
+pub object_place-is : (view : Viewed) (pointer i node at : ℕ) → IsView view → region_of pointer ≤ view.shape.regions
+    → node ≡ get_or (replicas_of view (region_of pointer)) 0 0 → at ≡ region_start view.shape (region_of pointer) + 8 * unit_of pointer
+    → primary_place view (object_word pointer i) ≡ record { node = node; at = at + i }
+object_place-is view pointer i node at is within first stands =
+    let position : position_of view.shape (object_word pointer i) ≡ at + i = omega (arith, stands) in
+    primary_place-is view (object_word pointer i) (replicas_of-some view (region_of pointer) is within) ∙ rw (position, first) refl
 
 -- a memory node has fewer than 2^21 words
 node_words-below : (sizes : Sizes) → IsWithinLimits sizes → node_words sizes < 2 ^ 21
@@ -52,9 +39,9 @@ in_pool-below sizes place limits inside = elim inside [
 ]
 
 -- the first word's position is as small
-pub object_place-below : (view : Viewed) (pointer : ℕ) (items : List (ℕ × ℕ)) → IsView view → HasWord view.shape (object_word pointer 0) → items ≡ word_places_of view (region_of pointer) (8 * unit_of pointer)
-    → (get_or items 0 (0, 0)).1 < 2 ^ 21
-object_place-below view pointer items is has are =
-    let here = object_place-is view pointer 0 items is has.1 are in
+pub object_place-below : (view : Viewed) (pointer node at : ℕ) → IsView view → HasWord view.shape (object_word pointer 0)
+    → node ≡ get_or (replicas_of view (region_of pointer)) 0 0 → at ≡ region_start view.shape (region_of pointer) + 8 * unit_of pointer → at < 2 ^ 21
+object_place-below view pointer node at is has first stands =
+    let here = object_place-is view pointer 0 node at is has.1 first stands in
     let below = in_pool-below view.shape (primary_place view (object_word pointer 0)) is.limits (primary_place-inside view (object_word pointer 0) is has has.1) in
     omega (arith, ap (λ (place : Place). place.at) here)

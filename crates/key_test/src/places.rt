@@ -3,7 +3,7 @@ ghost use Rattle.machine.specs.Places.{object_word, primary_place, slot_primary}
 ghost use Rattle.region_view.specs.Layout.{HasWord};
 
 use object_form::{region_of, unit_of};
-use region_view::{View, replicas, word_places};
+use region_view::{View, primary, word_place};
 use verb_words::Place;
 
 /// The place of an object's first word on the primary of its region. The object's other words stand
@@ -17,12 +17,8 @@ pub fn object_place(view: &View, pointer: u32) -> Place
 {
     // The sizes are read, so that they are known to be within their limits.
     prove!(view.shape.groups <= 256);
-    let places = word_places(view, region_of(pointer), 8 * unit_of(pointer));
-    let first = places[0];
-    Place {
-        node: first.0,
-        at: first.1,
-    }
+    let (node, at) = word_place(view, region_of(pointer), 8 * unit_of(pointer));
+    Place { node, at }
 }
 
 /// The node that slots are read on: the primary of the index. A slot's position there is its number.
@@ -31,5 +27,5 @@ pub fn index_primary(view: &View) -> u32
 {
     // The sizes are read, so that they are known to be within their limits.
     prove!(view.shape.groups <= 256);
-    replicas(view, 0)[0]
+    primary(view, 0)
 }

@@ -5,7 +5,7 @@ ghost use Rattle.script_run.specs.declared.writing.Unwritten.TheVariants.{NoMemo
 ghost use Rattle.script_run.specs.Written.{Writes};
 
 use outside::{Sink, Took};
-use script_text::{OutLine, line_text};
+use script_text::{OutLine, line_bytes};
 use std::alloc::{AllocError, Global};
 
 /// Why a text was not written to its end.
@@ -31,8 +31,7 @@ pub fn write_line<K: Sink>(alloc: Global, line: &OutLine, sink: &mut K) -> Resul
     ensures later { K.faults sink.old ≤ K.faults sink.new }
     ensures steady { IsSteady K.cannot_fail K.faults sink.old sink.new }
 {
-    let mut text = Vec::new(alloc);
-    line_text(alloc, line, &mut text)?;
+    let text = line_bytes(alloc, line)?;
     write_all(&text, sink)
 }
 

@@ -31,4 +31,4 @@ pub use out_lines::{NotYetText, OutLine, RefusalText, ReplyText};
 pub use outputs::parse_output;
 pub use script_reading::{MOST_BYTES, parse};
 pub use scripts::{CallText, Line, Script, Shape};
-pub use writing::line_text;
+pub use writing::{line_bytes, line_text};

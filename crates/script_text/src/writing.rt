@@ -1,6 +1,6 @@
 //! Output lines as text.
 
-ghost use Rattle.std.specs.Prelude.{◌≡◌, ℕ, ◌<◌, ◌++◌, List, [], ◌∷◌, OnErr, OnOk, codes, false, flat_map, map};
+ghost use Rattle.std.specs.Prelude.{◌≡◌, ℕ, ◌<◌, ◌≤◌, ◌++◌, List, [], ◌∷◌, IfOk, OnErr, OnOk, codes, false, flat_map, length, map};
 ghost use Rattle.std.specs.Char.{is_ascii_graphic};
 ghost use Rattle.std.specs.Fmt.{decimal, digit_glyph};
 ghost use Rattle.std.specs.List.{list_all};
@@ -11,6 +11,7 @@ ghost use Rattle.script_text.specs.Shown.{actor_text, answer_text, are_visible, 
 use crate::byte_text::Text;
 use crate::out_lines::{NotYetText, OutLine, RefusalText, ReplyText};
 use crate::scripts::CallText;
+use arrayvec::ArrayVec;
 use itoa::Buffer;
 use std::alloc::{AllocError, Global};
 
@@ -22,10 +23,18 @@ pub fn line_text(alloc: Global, out: &OutLine, into: &mut Vec<u8>) -> Result<(),
     ensures text { OnOk result (into.new.items ≡ into.old.items ++ line_text out.now) }
     ensures unchanged { OnErr result (into.new.items ≡ into.old.items) }
 {
+    let line = line_bytes(alloc, out)?;
+    into.extend_from_slice(&line)
+}
+
+/// One line with its line feed.
+pub fn line_bytes(alloc: Global, out: &OutLine) -> Result<Vec<u8>, AllocError>
+    ensures { IfOk result (λ line. line.items ≡ line_text out.now) }
+{
     let mut line = Vec::with_capacity(alloc, LINE)?;
     push_line(&mut line, out)?;
     line.push(b'\n')?;
-    into.extend_from_slice(&line)
+    Ok(line)
 }
 
 // Each of these appends words, with a blank before each but the first word of a line.
@@ -367,12 +376,32 @@ fn are_visible(bytes: &[u8]) -> bool
     bytes.iter().all(|byte| byte.is_ascii_graphic())
 }
 
-#[tactic(auto, unfolding(crate::specs::Shown::word_text))]
 fn push_word(into: &mut Vec<u8>, word: u64) -> Result<(), AllocError>
     ensures { OnOk result (into.new.items ≡ into.old.items ++ spaced (word_text word ∷ [])) }
 {
+    let digits = word_digits(word);
     into.push(b' ')?;
-    push_hex(into, &word.to_be_bytes())
+    into.extend_from_slice(digits.as_slice())
+}
+
+#[tactic(auto, unfolding(crate::specs::Shown::word_text))]
+fn word_digits(word: u64) -> ArrayVec<u8, 16>
+    ensures { result.items ≡ word_text word }
+{
+    eight_bytes_hex(&word.to_be_bytes())
+}
+
+// The digits of at most eight bytes, to be appended at once.
+fn eight_bytes_hex(bytes: &[u8]) -> ArrayVec<u8, 16>
+    requires { length bytes.now ≤ 8 }
+    ensures { result.items ≡ flat_map hex_text bytes.now }
+{
+    let mut digits = ArrayVec::new();
+    for byte in bytes {
+        digits.push(hex_digit(*byte / 16));
+        digits.push(hex_digit(*byte % 16));
+    }
+    digits
 }
 
 // Appends two digits for each byte, 0 to 9 and a to f.
