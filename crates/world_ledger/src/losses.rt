@@ -3,8 +3,8 @@ ghost use Rattle.machine_world.specs.Refusals.{keeps_none, region_lost, stays_li
 ghost use Rattle.machine_world.specs.Standing.{node_sizes};
 ghost use Rattle.world_ledger.specs.Seen.{words_seen};
 
-use crate::readings::{in_mask, is_lost, mask_in_force, placed_node};
-use region_view::Shape;
+use crate::readings::{in_mask, is_lost, mask_in_force};
+use region_view::{Shape, placed_node};
 use verb_words::Nodes;
 
 /// The least region that would be left without a live replica in the mask, were this node lost.
