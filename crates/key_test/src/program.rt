@@ -57,6 +57,7 @@ impl Model for KeyTest {
 
 impl KeyTest {
     /// A test of whether the object of this class, which the pointer names, has the key.
+    #[inline(always)]
     pub fn new(view: View, key: &[u8], pointer: u32, class: u8) -> KeyTest
         requires key { IsKeyLength (length key.now) }
         requires object { IsObject view.shape (record { pointer = pointer; class = class }) }
@@ -83,6 +84,7 @@ impl KeyTest {
     }
 
     /// The verb that is due.
+    #[inline(always)]
     pub fn next(&self) -> Verb
         ensures verb { result ≡ next self.now }
         ensures inside { IsInPool self.now.view.shape (place_of result) }
@@ -93,6 +95,7 @@ impl KeyTest {
         }
     }
 
+    #[inline(always)]
     fn place(&self, i: u32) -> Place
         requires { i < room_of self.now.object.class }
         ensures place { result ≡ primary_place self.now.view
@@ -106,6 +109,7 @@ impl KeyTest {
     }
 
     /// Takes the answer to the verb that was due, and tells what has come of the test.
+    #[inline(always)]
     pub fn after(&mut self, answer: Answer) -> Tested
         ensures state { self.new ≡ (turn self.old answer).state }
         ensures told { result ≡ (turn self.old answer).told }
@@ -119,6 +123,7 @@ impl KeyTest {
         }
     }
 
+    #[inline(always)]
     fn take(&mut self, found: u64) -> Tested
         ensures state { self.new ≡ (turn_at self.old.phase self.old found).state }
         ensures told { result ≡ (turn_at self.old.phase self.old found).told }

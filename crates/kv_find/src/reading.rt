@@ -101,6 +101,7 @@ impl ReadValue {
     }
 
     /// The verb that is due, while a word is still to be read.
+    #[inline(always)]
     pub fn next(&self) -> Verb
         requires { length self.now.words < words_for self.now.value_len }
         ensures verb { result ≡ next self.now }
@@ -115,6 +116,7 @@ impl ReadValue {
 
     /// Takes the answer to the verb that was due, and tells what has come of the reading. While it
     /// goes on a word is still to be read, and after `Whole` none is.
+    #[inline(always)]
     pub fn after(&mut self, answer: Answer) -> Fetched
         requires { length self.old.words < words_for self.old.value_len }
         ensures state { self.new ≡ (turn self.old answer).state }

@@ -55,6 +55,7 @@ impl Model for Find {
 
 impl Find {
     /// A search for the key from this place of its order on.
+    #[inline(always)]
     pub fn new(view: View, key: &[u8], from: usize) -> Find
         requires key { IsKeyLength (length key.now) }
         requires from { from < length (order_of key.now view.shape.groups) }
@@ -81,6 +82,7 @@ impl Find {
     }
 
     /// Whether the slot at the present place is read next, and not an object that it names.
+    #[inline(always)]
     pub fn is_at_slot(&self) -> bool
         ensures { result ≡ is_at_slot self.now.phase }
     {
@@ -91,6 +93,7 @@ impl Find {
     }
 
     /// The verb that is due.
+    #[inline(always)]
     pub fn next(&self) -> Verb
         ensures verb { result ≡ next self.now }
         ensures inside { IsInPool self.now.view.shape (place_of result) }
@@ -104,6 +107,7 @@ impl Find {
         }
     }
 
+    #[inline(always)]
     fn slot(&self) -> u32
         ensures { result ≡ slot_at self.now }
     {
@@ -111,6 +115,7 @@ impl Find {
     }
 
     /// Takes the answer to the verb that was due, and tells what has come of the search.
+    #[inline(always)]
     pub fn after(&mut self, answer: Answer) -> Found
         ensures state { self.new ≡ (turn self.old answer).state }
         ensures told { result ≡ (turn self.old answer).told }
@@ -136,6 +141,7 @@ impl Find {
         }
     }
 
+    #[inline(always)]
     fn take_slot(&mut self, answer: Answer) -> Found
         requires { self.old.phase ≡ AtSlot }
         ensures state { self.new ≡ (turn_at AtSlot self.old answer).state }
@@ -150,6 +156,7 @@ impl Find {
     }
 
     // Goes on to the key of the object that the slot's word names, or to the next slot.
+    #[inline(always)]
     fn test(&mut self, word: u64) -> Found
         ensures state { self.new ≡ (tests self.old word).state }
         ensures told { result ≡ (tests self.old word).told }
@@ -163,6 +170,7 @@ impl Find {
     }
 
     // The object that a word names, where the word has the fingerprint of the key too.
+    #[inline(always)]
     fn candidate_in(&self, word: u64) -> Option<Object>
         ensures { result ≡ candidate_in self.now.view.shape self.now.key word }
     {
@@ -174,6 +182,7 @@ impl Find {
     }
 
     /// Passes over the slot at the present place, as over one with another fingerprint.
+    #[inline(always)]
     pub fn pass(&mut self) -> Found
         ensures state { self.new ≡ (passed self.old).state }
         ensures told { result ≡ (passed self.old).told }

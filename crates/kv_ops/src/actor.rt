@@ -115,6 +115,7 @@ impl Actor {
     }
 
     /// The verb that is due.
+    #[inline(always)]
     pub fn next(&self) -> Verb
         ensures verb { result ≡ next self.now }
         ensures inside { IsInPool self.now.shape (place_of result) }
@@ -123,6 +124,7 @@ impl Actor {
     }
 
     /// Takes the answer to the verb that was due, and tells what has come of the call.
+    #[inline(always)]
     pub fn after(&mut self, answer: Answer) -> Step
         ensures state { self.new ≡ (turn self.old answer).state }
         ensures told { result ≡ (turn self.old answer).told }

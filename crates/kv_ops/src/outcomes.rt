@@ -91,6 +91,7 @@ impl Caller {
         }
     }
 
+    #[inline(always)]
     pub(crate) fn search(&self) -> Find
         requires ready { IsReadyUnder (client_of self.now) }
         requires view { IsView (view_of (client_of self.now)) }

@@ -57,6 +57,7 @@ impl Actor {
     }
 
     /// Whether the verb that is due may end the call.
+    #[inline(always)]
     pub fn is_ending(&self) -> bool
         ensures { result ≡ is_ending self.now.stage }
     {
@@ -67,6 +68,7 @@ impl Actor {
     }
 
     /// Whether the verb that is due reads a slot in a search.
+    #[inline(always)]
     pub fn reads_slot(&self) -> bool
         ensures { result ≡ reads_slot self.now.stage }
     {
@@ -79,6 +81,7 @@ impl Actor {
 
     /// The slot and the word that the verb that is due puts on the slot's primary, where a slot write
     /// has come so far.
+    #[inline(always)]
     pub fn final_swap(&self) -> Option<(u32, u64)>
         ensures swap { result ≡ option_map_or (λ write. Some (write.slot, write.fresh))
             (final_of self.now.stage) None }

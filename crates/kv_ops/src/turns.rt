@@ -31,6 +31,7 @@ const EPOCH: Place = Place { node: 0, at: 0 };
 // The verbs of a client.
 impl Caller {
     /// The verb that is due.
+    #[inline(always)]
     pub(crate) fn next(&self) -> Verb
         requires held { IsHeld (client_of self.now) }
         ensures { result ≡ next (client_of self.now) }
@@ -107,6 +108,7 @@ impl Caller {
 // The answers to them.
 impl Caller {
     /// Takes the answer to the verb that was due.
+    #[inline(always)]
     pub(crate) fn after(&mut self, answer: Answer) -> Step
         requires held { IsHeld (client_of self.old) }
         ensures { turn_of self.new result ≡ turn (client_of self.old) answer }
@@ -136,6 +138,7 @@ impl Caller {
         }
     }
 
+    #[inline(always)]
     fn after_search(&mut self, answer: Answer) -> Step
         requires held { IsHeld (client_of self.old) }
         requires search { IsSearch (client_of self.old).stage }
@@ -167,6 +170,7 @@ impl Caller {
         }
     }
 
+    #[inline(always)]
     fn after_fetch(&mut self, answer: Answer) -> Step
         requires held { IsHeld (client_of self.old) }
         requires fetch { self.old.stage ≡ Fetch }
@@ -187,6 +191,7 @@ impl Caller {
         }
     }
 
+    #[inline(always)]
     fn after_find(&mut self, answer: Answer) -> Step
         requires held { IsHeld (client_of self.old) }
         requires object { OwnsObject (client_of self.old) }
@@ -300,6 +305,7 @@ impl Caller {
         }
     }
 
+    #[inline(always)]
     fn after_body(&mut self, answer: Answer) -> Step
         requires held { IsHeld (client_of self.old) }
         requires body { self.old.stage ≡ Body }

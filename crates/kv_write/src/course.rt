@@ -58,6 +58,7 @@ impl Course {
     }
 
     /// The number of the word that is due, among those that are written.
+    #[inline(always)]
     pub(crate) fn piece(&self) -> usize
         ensures { result ≡ self.now.piece }
     {
@@ -65,6 +66,7 @@ impl Course {
     }
 
     /// Where the object's word `word` goes now.
+    #[inline(always)]
     pub(crate) fn place(&self, word: u32) -> Place
         requires word { word < OBJECT_WORDS }
         requires has { HasWord self.now.view.shape (object_word self.now.pointer word) }
@@ -80,6 +82,7 @@ impl Course {
     }
 
     /// Goes on after a write, where `count` words are written.
+    #[inline(always)]
     pub(crate) fn go_on(&mut self, count: usize) -> Written
         requires { self.old.piece < count }
         ensures state { self.new ≡ (gone_on self.old count).state }

@@ -107,6 +107,7 @@ impl ObjectWrite {
     }
 
     /// The verb that is due.
+    #[inline(always)]
     pub fn next(&self) -> Verb
         ensures verb { result ≡ next self.now }
         ensures inside { IsInPool self.now.view.shape (place_of result) }
@@ -116,6 +117,7 @@ impl ObjectWrite {
     }
 
     // The number of the word that is due, and what is written there.
+    #[inline(always)]
     fn present(&self) -> (u32, u64)
         ensures { result ≡ present_piece self.now }
     {
@@ -128,6 +130,7 @@ impl ObjectWrite {
     }
 
     /// Takes the answer to the verb that was due, and tells whether all words stand everywhere.
+    #[inline(always)]
     pub fn after(&mut self, answer: Answer) -> Written
         ensures state { self.new ≡ (turn self.old answer).state }
         ensures told { result ≡ (turn self.old answer).told }
@@ -192,6 +195,7 @@ pub fn erase(view: View, object: u32) -> LogWrite
 
 impl LogWrite {
     /// The verb that is due.
+    #[inline(always)]
     pub fn next(&self) -> Verb
         ensures verb { result ≡ next self.now }
         ensures inside { IsInPool self.now.view.shape (place_of result) }
@@ -201,6 +205,7 @@ impl LogWrite {
     }
 
     // The number of the word that is due, and what is written there.
+    #[inline(always)]
     fn present(&self) -> (u32, u64)
         ensures { result ≡ present_piece self.now }
     {
@@ -208,6 +213,7 @@ impl LogWrite {
     }
 
     /// Takes the answer to the verb that was due, and tells whether the words stand everywhere.
+    #[inline(always)]
     pub fn after(&mut self, answer: Answer) -> Written
         ensures state { self.new ≡ (turn self.old answer).state }
         ensures told { result ≡ (turn self.old answer).told }

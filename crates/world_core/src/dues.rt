@@ -129,6 +129,7 @@ pub(crate) fn note_decision(
 }
 
 /// Notes that the client has read a slot in a search, if this answer has told it one.
+#[inline(always)]
 pub(crate) fn note_read(ledger: &mut Ledger, actor: &Actor, answer: Answer, event: u64)
     ensures ledger { ledger.new.ledger ≡ with_read event actor.now answer ledger.old.ledger }
     ensures rooms { ledger.new.rooms ≡ ledger.old.rooms }
@@ -142,6 +143,7 @@ pub(crate) fn note_read(ledger: &mut Ledger, actor: &Actor, answer: Answer, even
 
 /// Whether a verb that goes to this place may change the bit of the object that the client's call has
 /// chosen. Most verbs do not, and need no look at the bit.
+#[inline(always)]
 pub(crate) fn may_take(shape: &Shape, actor: &Actor, place: Place) -> bool
     requires object { OwnsNoneOrOne shape.now actor.now }
     ensures { result ≡ may_take shape.now actor.now place }
@@ -155,6 +157,7 @@ pub(crate) fn may_take(shape: &Shape, actor: &Actor, place: Place) -> bool
 
 /// Whether the bit of the object that the client's call has chosen is set on the primary, where that
 /// is asked; false where it is not asked, or the call has chosen none.
+#[inline(always)]
 pub(crate) fn has_own_in_stock(nodes: &Nodes, shape: &Shape, actor: &Actor, is_asked: bool) -> bool
     requires whole { map length nodes.now ≡ node_sizes shape.now }
     requires object { OwnsNoneOrOne shape.now actor.now }

@@ -33,6 +33,7 @@ impl World {
     }
 
     /// Whether the client may take its next verb.
+    #[inline(always)]
     pub fn may_step(&self, client: u32) -> bool
         ensures { result ≡ is_none (refusal self.now (event.Step client)) }
     {

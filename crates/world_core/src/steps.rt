@@ -56,6 +56,7 @@ impl World {
 
     /// A client that may take its next verb takes it, as by `advance`, and what came of it is told
     /// alone: neither the verb nor its answer. Where memory is wanting nothing changes.
+    #[inline(always)]
     pub fn step(&mut self, client: u32) -> Result<Step, AllocError>
         requires events { self.old.events < 2 ^ 63 }
         requires allowed { refusal self.old (event.Step client) ≡ None }
@@ -67,6 +68,7 @@ impl World {
         Ok(taken.step)
     }
 
+    #[inline(always)]
     fn take(&mut self, client: u32, late: bool) -> Result<Taken, AllocError>
         requires events { self.old.events < 2 ^ 63 }
         requires allowed { refusal self.old (verb_event late client) ≡ None }
@@ -93,6 +95,7 @@ impl World {
 
 // A verb of the client at a place of the list. Most verbs neither decide a slot nor end a call, and need
 // no memory.
+#[inline(always)]
 fn take_verb(
     shape: &Shape,
     nodes: &mut Nodes,
@@ -136,6 +139,7 @@ fn take_verb(
 }
 
 // Whether the client's next verb may decide a slot or end the call.
+#[inline(always)]
 fn may_be_noted(actor: &kv_ops::Actor) -> bool
     ensures ends { result ≡ false → is_ending actor.now.stage ≡ false }
     ensures decides { result ≡ false → final_of actor.now.stage ≡ None }
@@ -147,6 +151,7 @@ fn may_be_noted(actor: &kv_ops::Actor) -> bool
 }
 
 // A verb that neither decides a slot nor ends the call.
+#[inline(always)]
 fn take_plain_verb(
     shape: &Shape,
     nodes: &mut Nodes,
@@ -186,6 +191,7 @@ fn take_plain_verb(
 }
 
 // A verb that may decide a slot or end the call: room for what it may bring is made before it is taken.
+#[inline(never)]
 fn take_noted_verb(
     shape: &Shape,
     nodes: &mut Nodes,
