@@ -1,6 +1,6 @@
 -- Rows of verbs and tasks, with the number of their verbs.
 use Rattle.std.proofs.Common.{◌≡◌, ℕ, zero, suc, ◌+◌, ◌-◌, ◌<◌, Bool, true, false, ◌&&◌, List, [], ◌∷◌, length, Option, Some, None, if◌then◌else◌, refl, sym, ap, ◌∙◌, add_assoc, add-zero, arith, length-set}
-use Rattle.std.specs.Prelude.{is_some, nat_lt}
+use Rattle.std.specs.Prelude.{is_none, is_some, nat_lt}
 use Rattle.std.specs.Option.{option_map_or}
 use Rattle.std.proofs.lemmas.Bool.Decides.{nat_tests}
 use Rattle.kv_ops.proofs.KeptLemmas.{turn-kept}
@@ -234,18 +234,18 @@ refusing world event None test is some there = let bad : false ≡ true = sym so
 refusing world event (Some why) test is some there = (why, sym is)
 
 pub lawful-if : (world : World) (event : Event) (may : Bool) → may ≡ is_none (refusal world event) → may ≡ true → refusal world event ≡ None
-lawful-if world event may is yes = by (refusal world event) refl
+lawful-if world event may is does = by (refusal world event) refl
   where
     by : (r : Option Refused) → refusal world event ≡ r → refusal world event ≡ None
     by None none = none
-    by (Some why) some = let bad : true ≡ false = sym yes ∙ is ∙ ap is_none some in absurd cc
+    by (Some why) some = let bad : true ≡ false = sym does ∙ is ∙ ap is_none some in absurd cc
 
 pub row-unless : (before : Counted) (event : Event) (most : ℕ) (may : Bool) → may ≡ is_none (refusal before.world event) → may ≡ false
     → before ≡ counts before (takes_up_to most false event before.world)
-row-unless before event most may is no = by (refusal before.world event) refl
+row-unless before event most may is not_so = by (refusal before.world event) refl
   where
     by : (r : Option Refused) → refusal before.world event ≡ r → before ≡ counts before (takes_up_to most false event before.world)
-    by None none = let bad : true ≡ false = sym (is ∙ ap is_none none) ∙ no in absurd cc
+    by None none = let bad : true ≡ false = sym (is ∙ ap is_none none) ∙ not_so in absurd cc
     by (Some why) some = sym (row-refused before event why most some)
 
 pub task-unless : (before : Counted) (task : Task) (world : World) (reason : Option Refused) (test : Bool) → world ≡ before.world → reason ≡ refusal world (event.Choose task) → test ≡ is_some reason → test ≡ true

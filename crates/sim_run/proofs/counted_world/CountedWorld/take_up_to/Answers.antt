@@ -1,4 +1,4 @@
-use Rattle.std.proofs.Common.{sym}
+use Rattle.std.proofs.Common.{sym, ◌∙◌}
 use Rattle.sim_run.proofs.CourseLemmas.{on-ok}
 use Rattle.sim_run.proofs.TakesLemmas.{lawful-if, row-taken, row-unless}
 use Rattle.sim_run.specs.Counted.{event_of}
