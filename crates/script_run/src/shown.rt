@@ -96,7 +96,7 @@ pub(crate) fn shown_reply(alloc: Global, reply: &Reply) -> Result<ReplyText, All
 fn bytes_of(alloc: Global, text: &Text) -> Result<Bytes, AllocError>
     ensures { IfOk result (λ bytes. bytes ≡ text.now) }
 {
-    Ok(Bytes::of_vec(text.as_slice().to_vec(alloc)?))
+    Bytes::of_slice(alloc, text.as_slice())
 }
 
 /// An equal text with memory of its own.

@@ -37,5 +37,5 @@ fn numbered(alloc: Global, letters: &str, number: u32) -> Result<Bytes, AllocErr
     ensures { IfOk result (λ word. word ≡ letters.now ++ decimal number) }
 {
     let text = format!(in alloc; "{letters}{number}")?;
-    Ok(Bytes::of_vec(text.into_bytes()))
+    Bytes::of_slice(alloc, text.as_bytes())
 }

@@ -13,12 +13,12 @@ use world_ledger::Caller;
 pub(crate) fn call_of(alloc: Global, actor: &Actor) -> Result<Call, AllocError>
     ensures { IfOk result (λ call. call ≡ call_of actor.now) }
 {
-    let key = bytes_of(alloc, actor.key())?;
+    let key = Bytes::of_slice(alloc, actor.key())?;
     match actor.operation() {
         Operation::Get => Ok(Call::Get { key }),
         Operation::Put => Ok(Call::Put {
             key,
-            value: bytes_of(alloc, actor.written())?,
+            value: Bytes::of_slice(alloc, actor.written())?,
         }),
         Operation::Delete => Ok(Call::Delete { key }),
     }
@@ -41,7 +41,7 @@ pub(crate) fn reply_of(alloc: Global, actor: &Actor, outcome: Outcome) -> Result
 {
     match outcome {
         Outcome::Done => Ok(Reply::Done),
-        Outcome::Value => Ok(Reply::Value(bytes_of(alloc, actor.value())?)),
+        Outcome::Value => Ok(Reply::Value(Bytes::of_slice(alloc, actor.value())?)),
         Outcome::Absent => Ok(Reply::Absent),
         Outcome::Full => Ok(Reply::Full),
         Outcome::NoSpace {
@@ -54,10 +54,4 @@ pub(crate) fn reply_of(alloc: Global, actor: &Actor, outcome: Outcome) -> Result
             begin,
         }),
     }
-}
-
-fn bytes_of(alloc: Global, bytes: &[u8]) -> Result<Bytes, AllocError>
-    ensures { IfOk result (λ copy. copy ≡ bytes.now) }
-{
-    Ok(Bytes::of_vec(Vec::from_slice(alloc, bytes)?))
 }
