@@ -4,6 +4,7 @@ use Rattle.std.specs.Prelude.{AllPairs}
 use Rattle.std.specs.List.{range_with_len}
 use Rattle.std.proofs.lemmas.Bool.{cases_lt, false≢true}
 use Rattle.std.proofs.lemmas.Nat.{rows}
+use Rattle.std.proofs.lemmas.List.{map-append}
 use Rattle.std.proofs.lemmas.List.FromFn.{filter_of_map_range_with_len_more, get_or-map-range_with_len, length-map-range_with_len}
 use Rattle.std.proofs.lemmas.List.Kept.{AllPairs-filter}
 use Rattle.region_view.specs.Placed.{Viewed, in_mask, placed_node, placed_nodes, replicas_of}
@@ -71,3 +72,25 @@ filter_step p q x xs false false rest stronger one two = rw (one, two) rest
 pub filter_twice : (p q : ℕ → Bool) (xs : List ℕ) → ((x : ℕ) → p x ≡ true → q x ≡ true) → filter p xs ≡ filter p (filter q xs)
 filter_twice p q [] stronger = refl
 filter_twice p q (x ∷ xs) stronger = filter_step p q x xs (p x) (q x) (filter_twice p q xs stronger) (stronger x) refl refl
+
+-- a place, where the test passes
+abbrev pub only : Bool → ℕ × ℕ → List (ℕ × ℕ)
+only true place = place ∷ []
+only false place = []
+
+-- the same of the places at one position
+pub next_place : (mask : ℕ) (sizes : Sizes) (region i node at : ℕ) (test : Bool) (places grown : List (ℕ × ℕ))
+    → node ≡ placed_node sizes region i → test ≡ in_mask mask node
+    → places ≡ map (λ n. (n, at)) (filter (in_mask mask) (map (placed_node sizes region) (range_with_len 0 i)))
+    → grown ≡ places ++ only test (node, at)
+    → grown ≡ map (λ n. (n, at)) (filter (in_mask mask) (map (placed_node sizes region) (range_with_len 0 (i + 1))))
+next_place mask sizes region i node at test places grown is asked made grew =
+    let f : ℕ → ℕ = placed_node sizes region in
+    let g : ℕ → ℕ × ℕ = λ n. (n, at) in
+    let kept : List ℕ = filter (in_mask mask) (map f (range_with_len 0 i)) in
+    let more = next_replica mask sizes region i node test kept (kept ++ cond test (node ∷ []) []) is asked refl refl in
+    grew ∙ ap (λ l. l ++ only test (node, at)) made ∙ ap (λ l. map g kept ++ l) (by test) ∙ sym (map-append g kept (cond test (node ∷ []) [])) ∙ ap (map g) more
+  where
+    by : (t : Bool) → only t (node, at) ≡ map (λ n. (n, at)) (cond t (node ∷ []) [])
+    by true = refl
+    by false = refl

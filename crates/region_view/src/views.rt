@@ -86,6 +86,29 @@ pub fn placed_node(shape: &Shape, region: u32, i: u32) -> u32
     remainder(region + i, shape.nodes) + 1
 }
 
+// The node of a region that comes i after its first one, in the circle of all nodes.
+fn node_after(shape: &Shape, first: u32, i: u32) -> u32
+    requires first { first < shape.now.nodes }
+    requires i { i < shape.now.replicas }
+    ensures node { (region : ℕ) → first ≡ region % shape.now.nodes
+        → result ≡ placed_node shape.now region i }
+    ensures least { 1 ≤ result }
+    ensures few { result ≤ 8 }
+{
+    let Shape {
+        nodes,
+        replicas,
+        ..
+    } = *shape;
+    prove!(i < replicas);
+    let next = first + i;
+    if next < nodes {
+        next + 1
+    } else {
+        next - nodes + 1
+    }
+}
+
 // Each number of nodes has an arm of its own, since a division by a constant is a multiplication.
 fn remainder(number: u32, nodes: u32) -> u32
     requires { 1 ≤ nodes }
@@ -110,8 +133,9 @@ pub fn primary(view: &View, region: u32) -> u32
     ensures { result ≡ slice_index_or (replicas_of view.now region) 0 0 }
 {
     let View { shape, mask } = *view;
+    let first = remainder(region, shape.nodes);
     for i in 0..shape.replicas {
-        let node = placed_node(&shape, region, i);
+        let node = node_after(&shape, first, i);
         if in_mask(mask, node) {
             return node;
         }
@@ -137,9 +161,10 @@ pub fn replicas(view: &View, region: u32) -> ArrayVec<u32, 5>
     ensures few { length result.items ≤ 5 }
 {
     let View { shape, mask } = *view;
+    let first = remainder(region, shape.nodes);
     let mut nodes = ArrayVec::new();
     for i in 0..shape.replicas {
-        let node = placed_node(&shape, region, i);
+        let node = node_after(&shape, first, i);
         if in_mask(mask, node) {
             nodes.push(node);
         }
@@ -153,11 +178,15 @@ pub fn word_places(view: &View, region: u32, offset: u32) -> ArrayVec<(u32, u32)
     requires offset { offset < region_size view.now.shape region }
     ensures { result.items ≡ word_places_of view.now region offset }
 {
-    let at = region_start(&view.shape, region) + offset;
-    let nodes = replicas(view, region);
+    let View { shape, mask } = *view;
+    let at = region_start(&shape, region) + offset;
+    let first = remainder(region, shape.nodes);
     let mut places = ArrayVec::new();
-    for node in nodes.as_slice() {
-        places.push((*node, at));
+    for i in 0..shape.replicas {
+        let node = node_after(&shape, first, i);
+        if in_mask(mask, node) {
+            places.push((node, at));
+        }
     }
     places
 }

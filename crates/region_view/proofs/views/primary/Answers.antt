@@ -1,4 +1,4 @@
-use Rattle.std.proofs.Common.{◌≡◌, ℕ, Bool, true, get_or, ap, sym, subst, ◌∙◌, rules, arith}
+use Rattle.std.proofs.Common.{◌≡◌, ℕ, ◌%◌, Bool, true, get_or, ap, sym, subst, ◌∙◌, rules, arith}
 use Rattle.region_view.proofs.FirstLemmas.{first_kept, none_kept}
 use Rattle.region_view.specs.Placed.{Viewed, in_mask, placed_node, replicas_of}
 use Rattle.region_view.specs.Sizes.{Sizes}
@@ -9,7 +9,8 @@ returns-then-in_mask c =
     let view = c.view.inside in
     let f : ℕ → ℕ = placed_node view.shape c.args.region in
     let p : ℕ → Bool = in_mask view.mask in
-    let is = c.placed_node-node.ensures.node in
+    let first = c.remainder-first.ensures ∙ ap (λ (sizes : Sizes). c.args.region % sizes.nodes) c.shape.view_is in
+    let is = (c.node_after-node.ensures.node c.args.region first) in
     let passes : p (f c.loop-i.i) ≡ true = subst (λ n. p n ≡ true) is (sym c.in_mask.ensures ∙ c.if-in_mask.true) in
     let count = ap (λ (sizes : Sizes). sizes.replicas) c.shape.view_is in
     is
