@@ -1,9 +1,6 @@
 -- The places of nodes that have as many words as one another, and the first object of a pool.
-use Rattle.std.proofs.Common.{◌≡◌, ℕ, ◌<◌, List, [], length, map, replicate, get_or, refl, ap, sym, ◌∙◌, arith}
+use Rattle.std.proofs.Common.{◌≡◌, ℕ, ◌<◌, List, [], length, map, replicate, get_or, ap, sym, ◌∙◌, arith}
 use Rattle.std.proofs.lemmas.List.{get_or-map, get_or-replicate, length-map, length-replicate}
-use Rattle.machine.specs.ObjectNames.{IsObject}
-use Rattle.machine.proofs.ObjectNamesLemmas.{names_object-if}
-use Rattle.region_view.specs.Sizes.{Sizes}
 use Rattle.verb_words.specs.declared.verbs.Place.{Place}
 use Rattle.verb_words.specs.Words.{HasPlace}
 
@@ -13,9 +10,3 @@ square_has_place words place nodes size square on below =
     let long : place.node < length words = omega (arith, length-map words length, length-replicate nodes size) in
     let here = sym (get_or-map length words place.node [] 0 long) ∙ ap (λ l. get_or l place.node 0) square ∙ get_or-replicate nodes place.node size 0 on in
     record { node = long; at = omega arith }
-
-pub first_object : (sizes : Sizes) → sizes.regions ≡ 1 → sizes.blocks ≡ 1 → IsObject sizes (record { pointer = 0x100010; class = 0 })
-first_object sizes regions blocks = record {
-  class = omega arith;
-  named = names_object-if sizes 0 0x100010 (record { below = omega arith; region = (omega arith, omega arith); first = omega arith; last = omega arith; whole = refl });
-}

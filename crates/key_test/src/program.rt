@@ -3,10 +3,12 @@ ghost use Rattle.machine.specs.KeyTest.{Length, fits, key_test_of, meta_for, nex
 ghost use Rattle.machine.specs.ObjectNames.{IsObject};
 ghost use Rattle.machine.specs.Places.{IsInPool, object_word, primary_place};
 ghost use Rattle.machine.specs.declared.key_test.Tested.TheVariants.{Refused};
-ghost use Rattle.object_form.specs.Class.{IsKeyLength, room_of};
+ghost use Rattle.object_form.specs.Class.{IsKeyLength, room_of, words_for};
+ghost use Rattle.object_form.specs.Content.{word_from};
 ghost use Rattle.object_form.specs.declared.classes.TheConstants.{CLASSES};
 ghost use Rattle.verb_words.specs.Verb.{place_of};
 ghost use Rattle.verb_words.specs.declared.verbs.Answer.TheVariants.{Lost};
+ghost use Rattle.verb_words.specs.declared.verbs.Verb.TheVariants.{Read};
 
 use crate::keys::{key_bytes, key_word};
 use crate::objects::Object;
@@ -36,6 +38,8 @@ pub(crate) enum Phase {
 pub struct KeyTest {
     view: View,
     key: ArrayVec<u8, 64>,
+    /// The first word of the key: most keys have no other.
+    first_word: u64,
     pointer: u32,
     class: u8,
     /// The object's first word on the primary.
@@ -52,7 +56,7 @@ impl Model for KeyTest {
 
     ghost view = { λ t. test_of t.view t.key.items t.pointer t.class t.phase };
 
-    ghost invariant = { λ t. IsHeld (test_of t.view t.key.items t.pointer t.class t.phase) t.first };
+    ghost invariant = { λ t. IsHeld (test_of t.view t.key.items t.pointer t.class t.phase) t.first t.first_word };
 }
 
 impl KeyTest {
@@ -66,11 +70,40 @@ impl KeyTest {
         KeyTest {
             view,
             key: key_bytes(key),
+            first_word: key_word(key, 0),
             pointer,
             class,
             first: object_place(&view, pointer),
             phase: Phase::Length,
         }
+    }
+
+    /// The test begins anew with the object of this class that the pointer names.
+    #[inline(always)]
+    pub fn begin(&mut self, pointer: u32, class: u8)
+        requires object { IsObject self.old.view.shape (record { pointer = pointer; class = class }) }
+        ensures { self.new ≡ key_test_of self.old.view self.old.key (record { pointer = pointer; class = class }) }
+    {
+        self.first = object_place(&self.view, pointer);
+        self.pointer = pointer;
+        self.class = class;
+        self.phase = Phase::Length;
+    }
+
+    /// The view under which the object is read.
+    #[inline(always)]
+    pub fn view(&self) -> &View
+        ensures { result.now ≡ self.now.view }
+    {
+        &self.view
+    }
+
+    /// The key.
+    #[inline(always)]
+    pub fn key(&self) -> &[u8]
+        ensures { result.now ≡ self.now.key }
+    {
+        self.key.as_slice()
     }
 
     /// The object that is tested.
@@ -89,9 +122,18 @@ impl KeyTest {
         ensures verb { result ≡ next self.now }
         ensures inside { IsInPool self.now.view.shape (place_of result) }
     {
+        Verb::Read(self.place_to_read())
+    }
+
+    /// The place of the word that is read next: each verb of a test is a reading.
+    #[inline(always)]
+    pub fn place_to_read(&self) -> Place
+        ensures verb { Read result ≡ next self.now }
+        ensures inside { IsInPool self.now.view.shape result }
+    {
         match self.phase {
-            Phase::Length => Verb::Read(self.place(1)),
-            Phase::Part { word, .. } => Verb::Read(self.place(4 + word)),
+            Phase::Length => self.place(1),
+            Phase::Part { word, .. } => self.place(4 + word),
         }
     }
 
@@ -136,7 +178,7 @@ impl KeyTest {
                 kind,
                 value_len,
             } => {
-                if found != key_word(self.key.as_slice(), word as usize) {
+                if found != self.key_word(word) {
                     return Tested::Other;
                 }
                 let read = word + 1;
@@ -167,6 +209,18 @@ impl KeyTest {
             value_len: meta.value_len,
         };
         Tested::Going
+    }
+
+    // A word of the key.
+    #[inline(always)]
+    fn key_word(&self, word: u32) -> u64
+        requires { word < words_for (length self.now.key) }
+        ensures { result ≡ word_from self.now.key word }
+    {
+        if word == 0 {
+            return self.first_word;
+        }
+        key_word(self.key.as_slice(), word as usize)
     }
 
     // The meta that the word says, where the object may have the key by it.

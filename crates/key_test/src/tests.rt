@@ -69,7 +69,7 @@ fn run(rt: &impl Abort, nodes: &mut Nodes, test: &mut KeyTest) -> (Tested, u32)
 }
 
 #[test]
-#[tactic(auto, using(crate::proofs::TestLemmas::first_object))]
+#[tactic(auto, using(crate::proofs::StateLemmas::first_object))]
 fn keys_of_the_first_object(rt: HostRuntime) -> Result<(), Fail> {
     let Ok(shape) = shape_of(1, 1, 1, 1, 1, 1, 1) else {
         return Err("no shape".into());

@@ -95,3 +95,13 @@ pub candidate-held : (search now : KeySearch) (word : ℕ) (result : Option Obje
 candidate-held search now word result object inside is found some same =
     let named : candidate_in search.view.shape search.key word ≡ Some object = ap (λ (s : KeySearch). candidate_in s.view.shape s.key word) is ∙ sym found ∙ some in
     subst (IsObject search.view.shape) (sym same) (candidate-is search.view.shape search.key word object named)
+
+-- the test that begins anew is one of the object that was found in a word
+pub begun_test-held : (search now : KeySearch) (word : ℕ) (result : Option Object) (object inside : Object) (finger primary : ℕ) (begun : KeyTest) → IsHeld search finger primary → search ≡ now
+    → result ≡ candidate_in now.view.shape now.key word → result ≡ Some object → inside ≡ object → begun ≡ key_test_of search.view search.key inside
+    → IsHeld (record { view = begun.view; key = begun.key; order = search.order; place = search.place; phase = AtKey word begun }) finger primary
+begun_test-held search now word result object inside finger primary begun held is found some same begins =
+    let named : candidate_in search.view.shape search.key word ≡ Some inside =
+    ap (λ (s : KeySearch). candidate_in s.view.shape s.key word) is ∙ sym found ∙ some ∙ ap Some (sym same) in
+    let P : KeyTest → Type 0 = λ t. IsHeld (record { view = t.view; key = t.key; order = search.order; place = search.place; phase = AtKey word t }) finger primary in
+    subst P (sym begins) (tested-held search word inside finger primary held named)

@@ -4,12 +4,13 @@ use Rattle.kv_find.specs.declared.search.Phase.{Phase}
 use Rattle.kv_find.specs.declared.search.Phase.TheVariants.{AtSlot, AtKey}
 use Rattle.machine.specs.KeySearch as machine
 use Rattle.machine.specs.KeySearch.{KeySearch}
-use Rattle.region_view.specs.Placed.{Viewed}
+use Rattle.machine.specs.KeyTest.{KeyTest}
 
-abbrev pub phase_of : Phase → machine.Phase
-phase_of AtSlot = machine.AtSlot
-phase_of (AtKey word key_test) = machine.AtKey word key_test
+abbrev pub phase_of : KeyTest → Phase → machine.Phase
+phase_of key_test AtSlot = machine.AtSlot
+phase_of key_test (AtKey word) = machine.AtKey word key_test
 
-abbrev pub search_of : Viewed → List ℕ → List ℕ → ℕ → Phase → KeySearch
-search_of view key order place phase =
-    record { view = view; key = key; order = order; place = place; phase = phase_of phase }
+-- the test at hand, be it under way or not, has the view and the key of the search
+abbrev pub search_of : KeyTest → List ℕ → ℕ → Phase → KeySearch
+search_of key_test order place phase =
+    record { view = key_test.view; key = key_test.key; order = order; place = place; phase = phase_of key_test phase }

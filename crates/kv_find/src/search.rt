@@ -7,29 +7,34 @@ ghost use Rattle.object_form.specs.Class.{IsKeyLength};
 ghost use Rattle.slot_order.specs.Slots.{order_of};
 ghost use Rattle.verb_words.specs.Verb.{place_of};
 ghost use Rattle.verb_words.specs.declared.verbs.Answer.TheVariants.{Word, Lost};
+ghost use Rattle.verb_words.specs.declared.verbs.Verb.TheVariants.{Read};
 
 use arrayvec::ArrayVec;
-use key_test::{KeyTest, Object, Tested, index_primary, key_bytes, object_in};
+use key_test::{KeyTest, Object, Tested, index_primary, object_in};
 use machine::key_search::Found;
 use region_view::View;
 use slot_order::{finger, order};
 use std::marker::Model;
 use verb_words::{Answer, Place, Verb};
 
+/// The pointer of the first object of every pool: of region 1, behind the words of its blocks.
+const FIRST_OBJECT: u32 = 0x10_0010;
+
 /// What a search does next.
-#[derive(Debug, Drop)]
+#[derive(Clone, Copy, Debug)]
 pub(crate) enum Phase {
     /// Reads the slot at the present place.
     AtSlot,
     /// Tests the key of the object that this word of the slot names.
-    AtKey(u64, KeyTest),
+    AtKey(u64),
 }
 
 /// A search for a key, from a place of the key's order on.
 #[derive(Debug, Drop)]
 pub struct Find {
-    view: View,
-    key: ArrayVec<u8, 64>,
+    /// The present or last test of the key, which the next one takes the place of: it has the view and
+    /// the key of the search. Before the first it is one of the pool's first object.
+    test: KeyTest,
     /// The fingerprint of the key.
     finger: u8,
     /// The slots of the key, in the order in which they are read.
@@ -47,10 +52,9 @@ impl Model for Find {
 
     ghost Value = { KeySearch };
 
-    ghost view = { λ f. search_of f.view f.key.items f.order.items f.place f.phase };
+    ghost view = { λ f. search_of f.test f.order.items f.place f.phase };
 
-    ghost invariant = { λ f. IsHeld (search_of f.view f.key.items f.order.items f.place f.phase)
-        f.finger f.primary };
+    ghost invariant = { λ f. IsHeld (search_of f.test f.order.items f.place f.phase) f.finger f.primary };
 }
 
 impl Find {
@@ -64,8 +68,7 @@ impl Find {
         // The sizes are read, so that they are known to be within their limits.
         prove!(view.shape.groups <= 256);
         Find {
-            view,
-            key: key_bytes(key),
+            test: KeyTest::new(view, key, FIRST_OBJECT, 0),
             finger: finger(key),
             order: order(key, view.shape.groups),
             place: from,
@@ -86,9 +89,9 @@ impl Find {
     pub fn is_at_slot(&self) -> bool
         ensures { result ≡ is_at_slot self.now.phase }
     {
-        match &self.phase {
+        match self.phase {
             Phase::AtSlot => true,
-            Phase::AtKey(..) => false,
+            Phase::AtKey(_) => false,
         }
     }
 
@@ -98,12 +101,21 @@ impl Find {
         ensures verb { result ≡ next self.now }
         ensures inside { IsInPool self.now.view.shape (place_of result) }
     {
-        match &self.phase {
-            Phase::AtSlot => Verb::Read(Place {
+        Verb::Read(self.place_to_read())
+    }
+
+    /// The place of the word that is read next: each verb of a search is a reading.
+    #[inline(always)]
+    pub fn place_to_read(&self) -> Place
+        ensures verb { Read result ≡ next self.now }
+        ensures inside { IsInPool self.now.view.shape result }
+    {
+        match self.phase {
+            Phase::AtSlot => Place {
                 node: self.primary,
                 at: self.slot(),
-            }),
-            Phase::AtKey(_, test) => test.next(),
+            },
+            Phase::AtKey(_) => self.test.place_to_read(),
         }
     }
 
@@ -122,22 +134,19 @@ impl Find {
         ensures refused { (node : ℕ) → (result ≡ Refused node)
             ↔ ((answer ≡ Lost) × (node ≡ (place_of (next self.old)).node)) }
     {
-        match &mut self.phase {
+        match self.phase {
             Phase::AtSlot => self.take_slot(answer),
-            Phase::AtKey(word, test) => {
-                let word = *word;
-                match test.after(answer) {
-                    Tested::Going => Found::Going,
-                    Tested::Same { kind, value_len } => Found::At {
-                        slot: self.slot(),
-                        word,
-                        kind,
-                        value_len,
-                    },
-                    Tested::Other => self.pass(),
-                    Tested::Refused(node) => Found::Refused(node),
-                }
-            }
+            Phase::AtKey(word) => match self.test.after(answer) {
+                Tested::Going => Found::Going,
+                Tested::Same { kind, value_len } => Found::At {
+                    slot: self.slot(),
+                    word,
+                    kind,
+                    value_len,
+                },
+                Tested::Other => self.pass(),
+                Tested::Refused(node) => Found::Refused(node),
+            },
         }
     }
 
@@ -164,8 +173,8 @@ impl Find {
         let Some(object) = self.candidate_in(word) else {
             return self.pass();
         };
-        let test = KeyTest::new(self.view, self.key.as_slice(), object.pointer, object.class);
-        self.phase = Phase::AtKey(word, test);
+        self.test.begin(object.pointer, object.class);
+        self.phase = Phase::AtKey(word);
         Found::Going
     }
 
@@ -175,7 +184,7 @@ impl Find {
         ensures { result ≡ candidate_in self.now.view.shape self.now.key word }
     {
         if word >> 56 == u64::from(self.finger) {
-            object_in(&self.view.shape, word)
+            object_in(&self.test.view().shape, word)
         } else {
             None
         }

@@ -1,7 +1,6 @@
 use Rattle.std.proofs.Common.{sym, subst, ◌∙◌, ap, rules}
 use Rattle.machine.proofs.ViewLemmas.{IsView-of}
 use Rattle.region_view.specs.Placed.{LeavesNoneBare, Viewed}
-use Rattle.verb_words.specs.declared.verbs.Place.{Place}
 use Rattle.key_test.proofs.IndexLemmas.{slot_primary-is}
 use Rattle.key_test.proofs.places.index_primary.Goals as goal
 

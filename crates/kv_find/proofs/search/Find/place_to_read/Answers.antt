@@ -1,5 +1,5 @@
 use Rattle.kv_find.proofs.StateLemmas.{held_slot-inside}
-use Rattle.kv_find.proofs.search.Find.next.Goals as goal
+use Rattle.kv_find.proofs.search.Find.place_to_read.Goals as goal
 
 pub returns-in-AtSlot-clause-inside : goal.returns-in-AtSlot-clause-inside
 returns-in-AtSlot-clause-inside c =
