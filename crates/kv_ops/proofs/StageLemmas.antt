@@ -5,7 +5,8 @@ use Rattle.std.proofs.lemmas.List.{length-take}
 use Rattle.std.specs.Prelude.{Result, Ok, Err, IsOk}
 use Rattle.std.specs.Result.{is_ok}
 use Rattle.machine.specs.KeySearch.{is_at_slot}
-use Rattle.kv_ops.specs.Standings.{IsHeld, IsReadyUnder, reads_own}
+use Rattle.kv_ops.specs.Ahead.{is_searching}
+use Rattle.kv_ops.specs.Standings.{IsHeld, IsReadyUnder, IsSearch, reads_own}
 use Rattle.machine.specs.declared.choosing.Took.{Took}
 use Rattle.machine.specs.declared.choosing.Took.TheVariants as took
 use Rattle.machine.specs.declared.client_call.Step.{Step}
@@ -16,7 +17,7 @@ use Rattle.machine.specs.Choosing as choosing
 use Rattle.machine.specs.Client.{chooses_for, finds_at, kept_of, on_find, on_kind, on_seek, on_searching, on_took, remembers, turn, turn_at, view_of}
 use Rattle.machine.specs.KeySearch as search
 use Rattle.machine.specs.KeySearch.{IsKeySearch, KeySearch}
-use Rattle.machine.specs.Stage.{Client, Get, Put, Delete, Operation, Stage, Fetch, Find, LostNode, Seek}
+use Rattle.machine.specs.Stage.{Client, Get, Put, Delete, Operation, Stage, Idle, Start, ReadEpoch, Pause, Paused, LostNode, Seek, Fetch, Choose, Clear, Body, Find, ReadVersion, Log, WriteSlot, AwaitRound, TestKey, Resolve, Free, Return, End}
 use Rattle.machine.specs.Standing.{HasCall, IsAt}
 use Rattle.machine.specs.Stock.{Stock}
 use Rattle.machine.specs.Turn.{Turn}
@@ -170,3 +171,27 @@ at-find client key_search new found searched at is tells =
 
 pub find-only : (one other : KeySearch) → Find one ≡ Find other → one ≡ other
 find-only one other same = cc
+
+-- the search for a key is among the searches
+pub searching-searches : (stage : Stage) → is_searching stage ≡ true → IsSearch stage
+searching-searches (Seek key_search) is = tt
+searching-searches (Find key_search) is = tt
+searching-searches Idle is = absurd cc
+searching-searches Start is = absurd cc
+searching-searches ReadEpoch is = absurd cc
+searching-searches (Pause word kept) is = absurd cc
+searching-searches (Paused word kept) is = absurd cc
+searching-searches (LostNode node kept) is = absurd cc
+searching-searches (Fetch value_read) is = absurd cc
+searching-searches Choose is = absurd cc
+searching-searches (Clear change) is = absurd cc
+searching-searches (Body write) is = absurd cc
+searching-searches (ReadVersion word) is = absurd cc
+searching-searches (Log write) is = absurd cc
+searching-searches (WriteSlot write) is = absurd cc
+searching-searches (AwaitRound write) is = absurd cc
+searching-searches (TestKey key_test) is = absurd cc
+searching-searches (Resolve resolving) is = absurd cc
+searching-searches (Free change) is = absurd cc
+searching-searches (Return change) is = absurd cc
+searching-searches End is = absurd cc

@@ -1,4 +1,5 @@
 ghost use Rattle.std.specs.Prelude.{◌≡◌, ◌↔◌, ◌⊎◌, ℕ, ◌≤◌, Err, IfOk, OnOk, OnErr, [], length, true};
+ghost use Rattle.kv_ops.specs.Ahead.{is_searching};
 ghost use Rattle.kv_ops.specs.Causes.{IsRefused, Returns, StaysLost, StaysSealed, StaysUnchanged};
 ghost use Rattle.kv_ops.specs.Invocations.{IsReason, IsRefusal};
 ghost use Rattle.machine.specs.Client.{invoked, is_idle, next, turn};
@@ -8,6 +9,7 @@ ghost use Rattle.machine.specs.declared.client_call.Before.{Before};
 ghost use Rattle.machine.specs.declared.client_call.Outcome.{Outcome};
 ghost use Rattle.machine.specs.declared.client_call.Step.TheVariants.{Ended, NotYet};
 ghost use Rattle.verb_words.specs.Verb.{place_of};
+ghost use Rattle.verb_words.specs.declared.verbs.Verb.TheVariants.{Read};
 ghost use Rattle.verb_words.specs.declared.verbs.Why.TheVariants.{Lost, Sealed, Unchanged};
 
 use crate::callers::Caller;
@@ -20,7 +22,7 @@ use object_alloc::Stock;
 use region_view::Shape;
 use std::alloc::{AllocError, Global};
 use std::marker::Model;
-use verb_words::{Answer, Verb};
+use verb_words::{Answer, Place, Verb};
 
 /// A client of the store with its present or last call, which is a get, a put or a delete.
 ///
@@ -138,6 +140,26 @@ impl Actor {
             ↔ StaysUnchanged self.old answer slot word }
     {
         self.caller.after(answer)
+    }
+
+    /// The place of the word that a search reads next.
+    #[inline(always)]
+    pub fn place_to_read(&self) -> Place
+        requires { is_searching self.now.stage ≡ true }
+        ensures { Read result ≡ next self.now }
+    {
+        self.caller.place_to_read()
+    }
+
+    /// Takes the answer to a verb of a search, as `after` does.
+    #[inline(always)]
+    pub fn after_search(&mut self, answer: Answer) -> Step
+        requires { is_searching self.old.stage ≡ true }
+        ensures state { self.new ≡ (turn self.old answer).state }
+        ensures told { result ≡ (turn self.old answer).told }
+        ensures ended { (outcome : Outcome) → (result ≡ Ended outcome) ↔ Returns self.old answer outcome }
+    {
+        self.caller.after_search(answer)
     }
 
     /// Whether no call is open.

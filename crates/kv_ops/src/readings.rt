@@ -2,7 +2,7 @@
 
 ghost use Rattle.std.specs.Prelude.{◌≡◌, ◌<◌, ◌*◌, ◌==◌, IfSome, None, Some};
 ghost use Rattle.std.specs.Option.{option_map_or};
-ghost use Rattle.kv_ops.specs.Ahead.{is_ending};
+ghost use Rattle.kv_ops.specs.Ahead.{is_ending, is_searching};
 ghost use Rattle.kv_ops.specs.Stages.{operation_as};
 ghost use Rattle.machine.specs.Client.{fresh_of};
 ghost use Rattle.machine_world.specs.Ledger.{final_of, reads_slot};
@@ -63,6 +63,18 @@ impl Actor {
     {
         match &self.caller.stage {
             Stage::End => true,
+            _ => false,
+        }
+    }
+
+    /// Whether the verb that is due is one of the search for a key.
+    #[inline(always)]
+    pub fn is_searching(&self) -> bool
+        ensures { result ≡ is_searching self.now.stage }
+    {
+        match &self.caller.stage {
+            Stage::Seek(_) => true,
+            Stage::Find(_) => true,
             _ => false,
         }
     }

@@ -1,4 +1,5 @@
-ghost use Rattle.std.specs.Prelude.{◌≡◌, Some};
+ghost use Rattle.std.specs.Prelude.{◌≡◌, Some, true};
+ghost use Rattle.kv_ops.specs.Ahead.{is_searching};
 ghost use Rattle.kv_ops.specs.Callers.{client_of, turn_of};
 ghost use Rattle.kv_ops.specs.Standings.{IsControl, IsHeld, IsOfObject, IsOfSlot, IsReadyUnder, IsSearch, OwnsObject, OwnsPlace, reads_own};
 ghost use Rattle.kv_ops.specs.declared.stages.Stage.TheVariants.{Body, Fetch};
@@ -11,6 +12,7 @@ ghost use Rattle.machine.specs.SlotWrite.{SlotWrite};
 ghost use Rattle.machine.specs.Stage as stage;
 ghost use Rattle.region_view.specs.Control.{Pause};
 ghost use Rattle.verb_words.specs.declared.verbs.Answer.TheVariants.{Done, Word};
+ghost use Rattle.verb_words.specs.declared.verbs.Verb.TheVariants.{Read};
 ghost use Rattle.verb_words.specs.declared.verbs.Why.TheVariants.{Unchanged};
 
 use crate::callers::Caller;
@@ -70,6 +72,19 @@ impl Caller {
             Stage::Free(change) => change.next(),
             Stage::Return(change) => change.next(),
             Stage::End => Verb::Write(self.begin_place(), 2 * u64::from(self.number)),
+        }
+    }
+
+    /// The place of the word that a search reads next.
+    #[inline(always)]
+    pub(crate) fn place_to_read(&self) -> Place
+        requires { is_searching (client_of self.now).stage ≡ true }
+        ensures { Read result ≡ next (client_of self.now) }
+    {
+        match &self.stage {
+            Stage::Seek(find) => find.place_to_read(),
+            Stage::Find(find) => find.place_to_read(),
+            _ => EPOCH,
         }
     }
 
@@ -139,7 +154,7 @@ impl Caller {
     }
 
     #[inline(always)]
-    fn after_search(&mut self, answer: Answer) -> Step
+    pub(crate) fn after_search(&mut self, answer: Answer) -> Step
         requires held { IsHeld (client_of self.old) }
         requires search { IsSearch (client_of self.old).stage }
         ensures { turn_of self.new result ≡ turn (client_of self.old) answer }
@@ -225,6 +240,7 @@ impl Caller {
     }
 
     // What the search for the slot tells at this place.
+    #[inline(always)]
     fn on_find(&mut self, place: usize, found: Found) -> Step
         requires ready { IsReadyUnder (client_of self.old) }
         requires view { IsView (view_of (client_of self.old)) }

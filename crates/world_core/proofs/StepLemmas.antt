@@ -3,7 +3,7 @@ use Rattle.std.proofs.Common.{◌≡◌, ℕ, ◌<◌, ◌==◌, ◌-◌, if◌t
 use Rattle.std.specs.Option.{option_map_or}
 use Rattle.std.specs.Prelude.{not, nat_lt, slice_get, slice_index_or}
 use Rattle.std.proofs.lemmas.List.{get_or_default}
-use Rattle.kv_ops.specs.Ahead.{is_ending}
+use Rattle.kv_ops.specs.Ahead.{is_ending, is_searching}
 use Rattle.kv_ops.specs.Causes.{Returns}
 use Rattle.machine.specs.Client.{own_object, told}
 use Rattle.machine.specs.declared.client_call.Outcome.{Outcome}
@@ -17,11 +17,13 @@ use Rattle.machine_world.specs.Ledger.{Caller, caller_of, final_of, is_word, rea
 use Rattle.machine_world.specs.World.{Ledger, nobody}
 use Rattle.map_model.specs.Trace.{Returned}
 use Rattle.region_view.specs.Sizes.{Sizes}
-use Rattle.verb_words.specs.Applied.{words_after}
+use Rattle.verb_words.proofs.WordsLemmas.{with_word-word_at}
+use Rattle.verb_words.specs.Applied.{is_refused, words_after}
 use Rattle.verb_words.specs.Verb.{place_of}
 use Rattle.verb_words.specs.declared.verbs.Answer.{Answer}
 use Rattle.verb_words.specs.declared.verbs.Place.{Place}
 use Rattle.verb_words.specs.declared.verbs.Verb.{Verb}
+use Rattle.verb_words.specs.declared.verbs.Verb.TheVariants.{Read}
 use Rattle.world_core.specs.Dues.{HasRankToReturn, IsReturning, decision_for, has_own_in_stock, may_take, moments_told, with_decided, with_returning, word_to_replace}
 use Rattle.world_core.specs.Steps.{client_in, ledger_for}
 use Rattle.world_core.specs.declared.dues.Decision.{Decision}
@@ -117,6 +119,69 @@ ending-decides_nothing (TestKey test) is = absurd cc
 ending-decides_nothing (Resolve resolving) is = absurd cc
 ending-decides_nothing (Free change) is = absurd cc
 ending-decides_nothing (Return change) is = absurd cc
+
+-- a search neither ends the call nor decides a slot
+pub searching-ends_nothing : (stage : Stage) → is_searching stage ≡ true → is_ending stage ≡ false
+searching-ends_nothing (Seek search) is = refl
+searching-ends_nothing (Find search) is = refl
+searching-ends_nothing Idle is = absurd cc
+searching-ends_nothing Start is = absurd cc
+searching-ends_nothing ReadEpoch is = absurd cc
+searching-ends_nothing (Pause word kept) is = absurd cc
+searching-ends_nothing (Paused word kept) is = absurd cc
+searching-ends_nothing (LostNode node kept) is = absurd cc
+searching-ends_nothing (Fetch reading) is = absurd cc
+searching-ends_nothing Choose is = absurd cc
+searching-ends_nothing (Clear change) is = absurd cc
+searching-ends_nothing (Body write) is = absurd cc
+searching-ends_nothing (ReadVersion word) is = absurd cc
+searching-ends_nothing (Log write) is = absurd cc
+searching-ends_nothing (WriteSlot write) is = absurd cc
+searching-ends_nothing (AwaitRound write) is = absurd cc
+searching-ends_nothing (TestKey test) is = absurd cc
+searching-ends_nothing (Resolve resolving) is = absurd cc
+searching-ends_nothing (Free change) is = absurd cc
+searching-ends_nothing (Return change) is = absurd cc
+searching-ends_nothing End is = absurd cc
+
+pub searching-decides_nothing : (stage : Stage) → is_searching stage ≡ true → final_of stage ≡ None
+searching-decides_nothing (Seek search) is = refl
+searching-decides_nothing (Find search) is = refl
+searching-decides_nothing Idle is = absurd cc
+searching-decides_nothing Start is = absurd cc
+searching-decides_nothing ReadEpoch is = absurd cc
+searching-decides_nothing (Pause word kept) is = absurd cc
+searching-decides_nothing (Paused word kept) is = absurd cc
+searching-decides_nothing (LostNode node kept) is = absurd cc
+searching-decides_nothing (Fetch reading) is = absurd cc
+searching-decides_nothing Choose is = absurd cc
+searching-decides_nothing (Clear change) is = absurd cc
+searching-decides_nothing (Body write) is = absurd cc
+searching-decides_nothing (ReadVersion word) is = absurd cc
+searching-decides_nothing (Log write) is = absurd cc
+searching-decides_nothing (WriteSlot write) is = absurd cc
+searching-decides_nothing (AwaitRound write) is = absurd cc
+searching-decides_nothing (TestKey test) is = absurd cc
+searching-decides_nothing (Resolve resolving) is = absurd cc
+searching-decides_nothing (Free change) is = absurd cc
+searching-decides_nothing (Return change) is = absurd cc
+searching-decides_nothing End is = absurd cc
+
+-- a reading leaves the words as they are
+pub words_after-read : (words : List (List ℕ)) (place : Place) (refuse : Bool) → words_after words (Read place) refuse ≡ words
+words_after-read words place refuse = by (is_refused words (Read place) refuse) refl
+  where
+    by : (t : Bool) → is_refused words (Read place) refuse ≡ t → words_after words (Read place) refuse ≡ words
+    by true refused = rw refused refl
+    by false carried = rw carried (with_word-word_at words place)
+
+-- where no bit is looked at, no object is taken
+pub untaken : (sizes : Sizes) (client pointer : ℕ) (ledger : Ledger) → with_taking_of sizes client pointer false false ledger ≡ ledger
+untaken sizes client pointer ledger = ap (λ t. if t then with_holder sizes ledger pointer client else ledger) (never (pointer == 0))
+  where
+    never : (none : Bool) → (not none && (false && not false)) ≡ false
+    never true = refl
+    never false = refl
 
 -- a call ends only at the verb that may end it, and as it was to return
 abbrev pub EndsAsTold : Client → Step → Type 0

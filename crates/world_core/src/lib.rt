@@ -19,6 +19,7 @@ mod worlds;
 pub use machine_world::events::{Event, Task};
 pub use machine_world::outcomes::{Actor, Happened, Refused, Seen};
 pub use machine_world::parts::{BlockState, Division, ObjectState};
+pub use steps::Taken;
 pub use worlds::World;
 
 #[cfg(test)]

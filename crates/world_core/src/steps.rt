@@ -1,7 +1,7 @@
 //! A client's verb, as it comes or late.
 
-ghost use Rattle.std.specs.Prelude.{◌≡◌, ◌+◌, ◌++◌, ◌<◌, ◌^◌, [], None, IfOk, OnErr, OnOk, false, length, map, slice_set};
-ghost use Rattle.kv_ops.specs.Ahead.{is_ending};
+ghost use Rattle.std.specs.Prelude.{◌≡◌, ◌+◌, ◌++◌, ◌<◌, ◌^◌, [], None, IfOk, OnErr, OnOk, false, length, map, slice_set, true};
+ghost use Rattle.kv_ops.specs.Ahead.{is_ending, is_searching};
 ghost use Rattle.machine.specs.Client.{after, next, told};
 ghost use Rattle.machine_world.specs.Events.{acts, answer_of, moments_of, seen_by, step_of, verb_event};
 ghost use Rattle.machine_world.specs.Ledger.{final_of};
@@ -28,10 +28,10 @@ use world_ledger::Ledger;
 
 /// A verb that was taken, its answer, and what came of it.
 #[derive(Clone, Copy, Debug)]
-pub(crate) struct Taken {
-    verb: Verb,
-    answer: Answer,
-    step: Step,
+pub struct Taken {
+    pub verb: Verb,
+    pub answer: Answer,
+    pub step: Step,
 }
 
 impl World {
@@ -68,8 +68,9 @@ impl World {
         Ok(taken.step)
     }
 
+    /// The same with the verb and its answer. Late, the verb is carried out on a lost node too.
     #[inline(always)]
-    fn take(&mut self, client: u32, late: bool) -> Result<Taken, AllocError>
+    pub fn take(&mut self, client: u32, late: bool) -> Result<Taken, AllocError>
         requires events { self.old.events < 2 ^ 63 }
         requires allowed { refusal self.old (verb_event late client) ≡ None }
         ensures taken { IfOk result (λ taken. happened.Stepped
@@ -93,8 +94,8 @@ impl World {
     }
 }
 
-// A verb of the client at a place of the list. Most verbs neither decide a slot nor end a call, and need
-// no memory.
+// A verb of the client at a place of the list. Most verbs are those of a search; most others neither
+// decide a slot nor end a call, and need no memory.
 #[inline(always)]
 fn take_verb(
     shape: &Shape,
@@ -132,6 +133,9 @@ fn take_verb(
     ensures same_ledger { OnErr result (ledger.new.ledger ≡ ledger.old.ledger) }
     ensures same_trace { OnErr result (trace.new.items ≡ trace.old.items) }
 {
+    if clients[at].is_searching() {
+        return Ok(take_search_verb(shape, nodes, &mut clients[at], ledger, event, late));
+    }
     if may_be_noted(&clients[at]) {
         return take_noted_verb(shape, nodes, clients, ledger, trace, event, at, late);
     }
@@ -148,6 +152,35 @@ fn may_be_noted(actor: &kv_ops::Actor) -> bool
         return true;
     }
     actor.final_swap().is_some()
+}
+
+// A verb of a search: it changes nothing of the memory.
+#[inline(always)]
+fn take_search_verb(
+    shape: &Shape,
+    nodes: &mut Nodes,
+    actor: &mut kv_ops::Actor,
+    ledger: &mut Ledger,
+    event: u64,
+    late: bool,
+) -> Taken
+    requires ready { IsReady shape.now nodes.old ledger.old.ledger }
+    requires client { CanStep shape.now nodes.old actor.old }
+    requires searches { is_searching actor.old.stage ≡ true }
+    ensures verb { result.verb ≡ next actor.old }
+    ensures answer { result.answer ≡ answer_for late nodes.old actor.old }
+    ensures step { result.step ≡ told actor.old (answer_for late nodes.old actor.old) }
+    ensures nodes { nodes.new ≡ nodes_for late nodes.old actor.old }
+    ensures actor { actor.new ≡ after actor.old (answer_for late nodes.old actor.old) }
+    ensures ledger { ledger.new.ledger ≡ ledger_for shape.now nodes.old nodes.new event actor.old
+        (answer_for late nodes.old actor.old) ledger.old.ledger }
+    ensures silent { moments_of actor.old (told actor.old (answer_for late nodes.old actor.old)) ≡ [] }
+{
+    let verb = Verb::Read(actor.place_to_read());
+    let answer = nodes.apply(verb, !late);
+    note_read(ledger, actor, answer, event);
+    let step = actor.after_search(answer);
+    Taken { verb, answer, step }
 }
 
 // A verb that neither decides a slot nor ends the call.
