@@ -21,7 +21,9 @@ mod script_reading;
 mod script_tests;
 mod scripts;
 mod shape_reading;
+mod verb_texts;
 mod word_counts;
+mod word_texts;
 mod word_values;
 mod writing;
 
@@ -31,4 +33,5 @@ pub use out_lines::{NotYetText, OutLine, RefusalText, ReplyText};
 pub use outputs::parse_output;
 pub use script_reading::{MOST_BYTES, parse};
 pub use scripts::{CallText, Line, Script, Shape};
+pub use verb_texts::{VERB_LINE, put_verb_line};
 pub use writing::{line_bytes, line_text};

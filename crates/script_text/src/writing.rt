@@ -1,16 +1,18 @@
 //! Output lines as text.
 
-ghost use Rattle.std.specs.Prelude.{◌≡◌, ℕ, ◌<◌, ◌≤◌, ◌++◌, List, [], ◌∷◌, IfOk, OnErr, OnOk, codes, false, flat_map, length, map};
+ghost use Rattle.std.specs.Prelude.{◌≡◌, ℕ, ◌++◌, List, [], ◌∷◌, IfOk, OnErr, OnOk, flat_map, map};
 ghost use Rattle.std.specs.Char.{is_ascii_graphic};
-ghost use Rattle.std.specs.Fmt.{decimal, digit_glyph};
+ghost use Rattle.std.specs.Fmt.{decimal};
 ghost use Rattle.std.specs.List.{list_all};
 ghost use Rattle.script_text.specs.OutputPart.{call_parts, not_yet_parts, part_text, refusal_parts, reply_parts};
 ghost use Rattle.script_text.specs.OutputText.{joined, line_text, line_words, spaced};
-ghost use Rattle.script_text.specs.Shown.{actor_text, answer_text, are_visible, bytes_text, hex_text, is_shown_as_is, word_text};
+ghost use Rattle.script_text.specs.Shown.{actor_text, are_visible, bytes_text, hex_text, is_shown_as_is, word_text};
 
 use crate::byte_text::Text;
 use crate::out_lines::{NotYetText, OutLine, RefusalText, ReplyText};
 use crate::scripts::CallText;
+use crate::verb_texts::{VERB_LINE, put_add, put_read, put_swap, put_write};
+use crate::word_texts::{hex_digit, word_digits};
 use arrayvec::ArrayVec;
 use itoa::Buffer;
 use std::alloc::{AllocError, Global};
@@ -86,8 +88,9 @@ fn push_line(into: &mut Vec<u8>, out: &OutLine) -> Result<(), AllocError>
             at,
             answer,
         } => {
-            push_verb(into, *actor, b"read", *node, *at)?;
-            push_answer(into, *answer)
+            let mut words = ArrayVec::new();
+            put_read(&mut words, *actor, *node, *at, *answer);
+            push_words(into, &words)
         }
         OutLine::VerbWrite {
             actor,
@@ -96,12 +99,9 @@ fn push_line(into: &mut Vec<u8>, out: &OutLine) -> Result<(), AllocError>
             word,
             lost,
         } => {
-            push_verb(into, *actor, b"write", *node, *at)?;
-            push_word(into, *word)?;
-            if *lost {
-                into.extend_from_slice(b" = lost")?;
-            }
-            Ok(())
+            let mut words = ArrayVec::new();
+            put_write(&mut words, *actor, *node, *at, *word, *lost);
+            push_words(into, &words)
         }
         OutLine::VerbSwap {
             actor,
@@ -111,10 +111,9 @@ fn push_line(into: &mut Vec<u8>, out: &OutLine) -> Result<(), AllocError>
             fresh,
             answer,
         } => {
-            push_verb(into, *actor, b"swap", *node, *at)?;
-            push_word(into, *expect)?;
-            push_word(into, *fresh)?;
-            push_answer(into, *answer)
+            let mut words = ArrayVec::new();
+            put_swap(&mut words, *actor, *node, *at, *expect, *fresh, *answer);
+            push_words(into, &words)
         }
         OutLine::VerbAdd {
             actor,
@@ -123,9 +122,9 @@ fn push_line(into: &mut Vec<u8>, out: &OutLine) -> Result<(), AllocError>
             amount,
             answer,
         } => {
-            push_verb(into, *actor, b"add", *node, *at)?;
-            push_word(into, *amount)?;
-            push_answer(into, *answer)
+            let mut words = ArrayVec::new();
+            put_add(&mut words, *actor, *node, *at, *amount, *answer);
+            push_words(into, &words)
         }
         OutLine::Word { node, at, word } => {
             push_counted(into, b"w", *node, *at)?;
@@ -261,31 +260,11 @@ fn push_refusal(into: &mut Vec<u8>, why: &RefusalText) -> Result<(), AllocError>
     }
 }
 
-fn push_verb(
-    into: &mut Vec<u8>,
-    actor: Option<u32>,
-    name: &[u8],
-    node: u32,
-    at: u32,
-) -> Result<(), AllocError>
-    ensures { OnOk result (into.new.items ≡ into.old.items ++ joined (codes "v" ∷ actor_text actor ∷ name.now ∷ decimal node ∷ decimal at ∷ [])) }
+// Appends the words of a verb, which stand in a place of their own.
+fn push_words(into: &mut Vec<u8>, words: &ArrayVec<u8, VERB_LINE>) -> Result<(), AllocError>
+    ensures { OnOk result (into.new.items ≡ into.old.items ++ words.now.items) }
 {
-    into.push(b'v')?;
-    push_actor(into, actor)?;
-    into.push(b' ')?;
-    push_counted(into, name, node, at)
-}
-
-fn push_answer(into: &mut Vec<u8>, answer: Option<u64>) -> Result<(), AllocError>
-    ensures { OnOk result (into.new.items ≡ into.old.items ++ spaced (codes "=" ∷ answer_text answer ∷ [])) }
-{
-    match answer {
-        None => into.extend_from_slice(b" = lost"),
-        Some(word) => {
-            into.extend_from_slice(b" =")?;
-            push_word(into, word)
-        }
-    }
+    into.extend_from_slice(words.as_slice())
 }
 
 fn push_actor(into: &mut Vec<u8>, actor: Option<u32>) -> Result<(), AllocError>
@@ -384,26 +363,6 @@ fn push_word(into: &mut Vec<u8>, word: u64) -> Result<(), AllocError>
     into.extend_from_slice(digits.as_slice())
 }
 
-#[tactic(auto, unfolding(crate::specs::Shown::word_text))]
-fn word_digits(word: u64) -> ArrayVec<u8, 16>
-    ensures { result.items ≡ word_text word }
-{
-    eight_bytes_hex(&word.to_be_bytes())
-}
-
-// The digits of at most eight bytes, to be appended at once.
-fn eight_bytes_hex(bytes: &[u8]) -> ArrayVec<u8, 16>
-    requires { length bytes.now ≤ 8 }
-    ensures { result.items ≡ flat_map hex_text bytes.now }
-{
-    let mut digits = ArrayVec::new();
-    for byte in bytes {
-        digits.push(hex_digit(*byte / 16));
-        digits.push(hex_digit(*byte % 16));
-    }
-    digits
-}
-
 // Appends two digits for each byte, 0 to 9 and a to f.
 fn push_hex(into: &mut Vec<u8>, bytes: &[u8]) -> Result<(), AllocError>
     ensures { OnOk result (into.new.items ≡ into.old.items ++ flat_map hex_text bytes.now) }
@@ -412,15 +371,4 @@ fn push_hex(into: &mut Vec<u8>, bytes: &[u8]) -> Result<(), AllocError>
         into.extend_from_slice(&[hex_digit(*byte / 16), hex_digit(*byte % 16)])?;
     }
     Ok(())
-}
-
-fn hex_digit(value: u8) -> u8
-    requires { value < 16 }
-    ensures { result ≡ digit_glyph false value }
-{
-    if value < 10 {
-        b'0' + value
-    } else {
-        b'a' + (value - 10)
-    }
 }

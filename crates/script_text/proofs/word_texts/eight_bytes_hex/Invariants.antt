@@ -1,7 +1,7 @@
 use Rattle.std.proofs.Common.{◌≡◌, ◌*◌, length, take}
 use Rattle.std.specs.List.{flat_map}
 use Rattle.script_text.specs.Shown.{hex_text}
-use Rattle.script_text.proofs.writing.eight_bytes_hex.Given as goal
+use Rattle.script_text.proofs.word_texts.eight_bytes_hex.Given as goal
 
 abbrev pub invariant-loop-byte : goal.invariant-loop-byte
 invariant-loop-byte l = record {
