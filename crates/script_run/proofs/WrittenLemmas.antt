@@ -23,3 +23,8 @@ pub writes_then : {K T : Type 0} (held : K → Option (List ℕ)) (faults : K �
 writes_then held faults a b c (Ok value) xs ys p later w = appends_then (held a) (held b) (held c) xs ys p w
 writes_then held faults a b c (Err why) xs ys p later w =
     subst (λ t. Stops (held a) (held c) (faults a) (faults c) why (xs ++ t)) (append-nil ys) (stops_then (held a) (held b) (held c) (faults a) (faults b) (faults c) why xs ys [] p later w)
+
+-- where the writing of a text stops, it stops in what would have followed too
+pub stops_before : (a b : Option (List ℕ)) (first second : ℕ) (why : Unwritten) (xs ys : List ℕ) → Stops a b first second why xs → Stops a b first second why (xs ++ ys)
+stops_before a b first second Fault xs ys w = (w.0, front_of_longer a b xs ys w.1)
+stops_before a b first second NoMemory xs ys w = front_of_longer a b xs ys w

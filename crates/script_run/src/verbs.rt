@@ -1,11 +1,13 @@
 // The verbs of a line.
 
-ghost use Rattle.std.specs.Prelude.{◌≡◌, ◌+◌, ◌<◌, ◌≤◌, ◌^◌, ◌++◌, IfErr, IfOk, None, OnOk, false, is_some, map};
-ghost use Rattle.machine_world.specs.Events.{comes_to, happens};
+ghost use Rattle.std.specs.Prelude.{◌≡◌, ◌+◌, ◌<◌, ◌≤◌, ◌^◌, ◌++◌, ◌∷◌, IfErr, IfOk, None, OnOk, false, is_some, map, true};
+ghost use Rattle.machine_world.specs.Events.{comes_to, happens, seen_by};
 ghost use Rattle.machine_world.specs.Refusals.{refusal};
 ghost use Rattle.machine_world.specs.declared.events.Event.TheVariants as event;
+ghost use Rattle.machine_world.specs.declared.outcomes.Actor.TheVariants.{Client};
 ghost use Rattle.outside.specs.Faults.{IsSteady};
 ghost use Rattle.script_meaning.specs.Lines.{taker_of, takes, takes_up_to, told_line, verb_lines};
+ghost use Rattle.script_meaning.specs.Shown.{shown_verb};
 ghost use Rattle.script_run.specs.Turns.{LastsFor, event_of, or_nothing, told_by, told_of_step, verb_told};
 ghost use Rattle.script_run.specs.Written.{Writes};
 ghost use Rattle.verb_history.specs.Moments.{moment_of};
@@ -19,7 +21,7 @@ use outside::Sink;
 use script_text::OutLine;
 use std::alloc::Global;
 use verb_history::Moment;
-use world_core::{Event, Happened, Seen, World};
+use world_core::{Actor, Event, Happened, Seen, Taken, World};
 
 /// Who takes the verbs of a line.
 #[derive(Clone, Copy, Debug, PartialEq, Eq)]
@@ -110,6 +112,7 @@ fn take<K: Sink>(
 
 // Takes one verb, and writes it where verbs are shown. Where the line comes to its end by it, what came
 // of it is written, and the answer is true.
+#[inline(always)]
 fn take_one<K: Sink>(
     alloc: Global,
     shows: bool,
@@ -127,12 +130,73 @@ fn take_one<K: Sink>(
     ensures steady { IsSteady K.cannot_fail K.faults sink.old sink.new }
 {
     match taker {
-        Taker::Client(client) if !shows => take_unshown(alloc, client, world, sink),
+        Taker::Client(client) if shows => take_shown(alloc, client, world, sink),
+        Taker::Client(client) => take_unshown(alloc, client, world, sink),
         _ => take_event(alloc, shows, taker, world, sink),
     }
 }
 
+// Takes a client's verb and writes it.
+fn take_shown<K: Sink>(
+    alloc: Global,
+    client: u32,
+    world: &mut World,
+    sink: &mut K,
+) -> Result<bool, Unwritten>
+    requires room { world.old.events < 2 ^ 63 }
+    requires lawful { refusal world.old (event.Step client) ≡ None }
+    ensures written { Writes K.held K.faults sink.old sink.new result
+        (text_of (verb_told true world.old (event.Step client))) }
+    ensures ends { IfOk result (λ ends. ends
+        ≡ is_some (told_line world.old (comes_to world.old (event.Step client)))) }
+    ensures world { OnOk result (world.new ≡ happens world.old (event.Step client)) }
+    ensures later { K.faults sink.old ≤ K.faults sink.new }
+    ensures steady { IsSteady K.cannot_fail K.faults sink.old sink.new }
+{
+    match world.take(client, false) {
+        Ok(taken) => write_taken(alloc, client, taken, world.moments(), sink),
+        Err(_) => Err(Unwritten::NoMemory),
+    }
+}
+
+// Writes a client's verb and what it has told, and answers whether that is anything.
+fn write_taken<K: Sink>(
+    alloc: Global,
+    client: u32,
+    taken: Taken,
+    moments: &[Moment],
+    sink: &mut K,
+) -> Result<bool, Unwritten>
+    ensures written { Writes K.held K.faults sink.old sink.new result
+        (text_of (shown_verb (seen_by (Client client) taken.verb taken.answer)
+        ∷ or_nothing (told_of_step client taken.step (map moment_of moments.now)))) }
+    ensures told { IfOk result (λ is_told. is_told
+        ≡ is_some (told_of_step client taken.step (map moment_of moments.now))) }
+    ensures later { K.faults sink.old ≤ K.faults sink.new }
+    ensures steady { IsSteady K.cannot_fail K.faults sink.old sink.new }
+{
+    let seen = Seen {
+        actor: Actor::Client(client),
+        verb: taken.verb,
+        answer: taken.answer,
+    };
+    match write_seen(alloc, seen, sink) {
+        Ok(()) => write_step(alloc, client, taken.step, moments, sink),
+        Err(why) => Err(why),
+    }
+}
+
+// Writes a verb with its answer.
+fn write_seen<K: Sink>(alloc: Global, seen: Seen, sink: &mut K) -> Result<(), Unwritten>
+    ensures written { Writes K.held K.faults sink.old sink.new result (line_text (shown_verb seen)) }
+    ensures later { K.faults sink.old ≤ K.faults sink.new }
+    ensures steady { IsSteady K.cannot_fail K.faults sink.old sink.new }
+{
+    write_line(alloc, &shown_verb(seen), sink)
+}
+
 // Takes a client's verb that is not to be written.
+#[inline(always)]
 fn take_unshown<K: Sink>(
     alloc: Global,
     client: u32,
@@ -150,13 +214,13 @@ fn take_unshown<K: Sink>(
     ensures steady { IsSteady K.cannot_fail K.faults sink.old sink.new }
 {
     match world.step(client) {
-        Ok(Step::Going) => Ok(false),
         Ok(step) => write_step(alloc, client, step, world.moments(), sink),
         Err(_) => Err(Unwritten::NoMemory),
     }
 }
 
 // Writes what a client's verb has told, and answers whether that is anything.
+#[inline(always)]
 fn write_step<K: Sink>(
     alloc: Global,
     client: u32,
@@ -170,6 +234,9 @@ fn write_step<K: Sink>(
     ensures later { K.faults sink.old ≤ K.faults sink.new }
     ensures steady { IsSteady K.cannot_fail K.faults sink.old sink.new }
 {
+    if let Step::Going = step {
+        return Ok(false);
+    }
     let told = told_of_step(alloc, client, step, moments)?;
     write_told(alloc, told, sink)
 }
@@ -265,10 +332,10 @@ fn write_verb<K: Sink>(
         return Ok(());
     }
     match happened {
-        Happened::Stepped { seen, .. } => write_line(alloc, &shown_verb(seen), sink),
-        Happened::Recovering { seen, .. } => write_line(alloc, &shown_verb(seen), sink),
-        Happened::Settling { seen, .. } => write_line(alloc, &shown_verb(seen), sink),
-        Happened::Joining { seen, .. } => write_line(alloc, &shown_verb(seen), sink),
+        Happened::Stepped { seen, .. } => write_seen(alloc, seen, sink),
+        Happened::Recovering { seen, .. } => write_seen(alloc, seen, sink),
+        Happened::Settling { seen, .. } => write_seen(alloc, seen, sink),
+        Happened::Joining { seen, .. } => write_seen(alloc, seen, sink),
         Happened::Registered(_) => Ok(()),
         Happened::Invoked(_) => Ok(()),
         Happened::Stopped => Ok(()),
