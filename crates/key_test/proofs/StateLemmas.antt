@@ -25,13 +25,6 @@ pub begun-held : (view : Viewed) (key : List ℕ) (object : Object) (first : Pla
 begun-held view key object first word is len named places below reads =
     record { state = key_test_of-is view key object is len.0 named; places = places; below = below; key = len.1; word = reads; class = named.class }
 
--- a test that begins anew with another object
-pub again-held : (test : KeyTest) (first other : Place) (word : ℕ) (object : Object) → IsHeld test first word → IsObject test.view.shape object
-    → ((i : ℕ) → primary_place test.view (object_word object.pointer i) ≡ record { node = other.node; at = other.at + i }) → other.at < 2 ^ 21
-    → IsHeld (key_test_of test.view test.key object) other word
-again-held test first other word object held named places below =
-    record { state = key_test_of-is test.view test.key object held.state.is_view held.state.some named; places = places; below = below; key = held.key; word = held.word; class = named.class }
-
 -- the place of a word of the object is in the pool
 pub held_place-inside : (test now : KeyTest) (first : Place) (word i : ℕ) → IsHeld test first word → test ≡ now → i < room_of now.object.class
     → IsInPool now.view.shape (record { node = first.node; at = first.at + i })

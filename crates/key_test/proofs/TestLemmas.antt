@@ -1,4 +1,4 @@
--- The places of nodes that have as many words as one another, and the first object of a pool.
+-- The places of nodes that have as many words as one another.
 use Rattle.std.proofs.Common.{◌≡◌, ℕ, ◌<◌, List, [], length, map, replicate, get_or, ap, sym, ◌∙◌, arith}
 use Rattle.std.proofs.lemmas.List.{get_or-map, get_or-replicate, length-map, length-replicate}
 use Rattle.verb_words.specs.declared.verbs.Place.{Place}
