@@ -8,7 +8,8 @@ ghost use Rattle.object_form.specs.declared.classes.TheConstants.{CLASSES};
 ghost use Rattle.verb_words.specs.Verb.{place_of};
 ghost use Rattle.verb_words.specs.declared.verbs.Answer.TheVariants.{Lost};
 
-use crate::places::{Part, replica_count, written_place};
+use crate::places::{Part, block_places, written_replica};
+use arrayvec::ArrayVec;
 use machine::bit_change::Changed;
 use object_form::{block_at, object_at, region_of};
 use region_view::View;
@@ -34,6 +35,8 @@ pub struct BitChange {
     set: bool,
     /// Whether each bitmap is read before, and left as it is where the bit is as it is wanted.
     look: bool,
+    /// The bitmap's place on each replica, the primary's first.
+    places: ArrayVec<(u32, u32), 5>,
     /// How many replicas are done.
     replica: usize,
     phase: Phase,
@@ -48,7 +51,7 @@ impl Model for BitChange {
     ghost view = { λ c. change_of c.view c.pointer c.class c.set c.look c.replica c.phase };
 
     ghost invariant = { λ c. IsHeld
-        (change_of c.view c.pointer c.class c.set c.look c.replica c.phase) };
+        (change_of c.view c.pointer c.class c.set c.look c.replica c.phase) c.places.items };
 }
 
 /// A change of the bit of the object of this class that the pointer names: it is set, or it is
@@ -59,12 +62,14 @@ pub fn change(view: View, pointer: u32, class: u8, set: bool, look: bool) -> Bit
     ensures { result ≡ bit_change_of view (record { pointer = pointer; class = class }) set look }
 {
     prove!(view.shape.regions > 0);
+    let places = block_places(&view, Part::Bitmap, region_of(pointer), block_at(pointer));
     BitChange {
         view,
         pointer,
         class,
         set,
         look,
+        places,
         replica: 0,
         phase: first_phase(look),
     }
@@ -93,9 +98,9 @@ impl BitChange {
         ensures place { result ≡ bitmap_place self.now }
         ensures inside { IsInPool self.now.view.shape result }
     {
-        let region = region_of(self.pointer);
-        let block = block_at(self.pointer);
-        written_place(&self.view, Part::Bitmap, region, block, self.replica)
+        let replica = written_replica(self.replica, self.places.len());
+        let (node, at) = self.places[replica];
+        Place { node, at }
     }
 
     fn number(&self) -> u32
@@ -151,9 +156,7 @@ impl BitChange {
         ensures state { self.new ≡ (on_replica self.old).state }
         ensures told { result ≡ (on_replica self.old).told }
     {
-        let region = region_of(self.pointer);
-        let block = block_at(self.pointer);
-        let count = replica_count(&self.view, Part::Bitmap, region, block);
+        let count = self.places.len();
         if self.replica + 1 < count {
             self.replica += 1;
             self.phase = first_phase(self.look);

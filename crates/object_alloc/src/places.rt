@@ -17,7 +17,12 @@ pub(crate) enum Part {
 
 /// Where a block's word stands on each replica, the primary's place first.
 #[tactic(auto, using(crate::proofs::PlaceLemmas::owner_pairs, crate::proofs::PlaceLemmas::bitmap_pairs))]
-fn block_places(view: &View, part: Part, region: u32, block: u32) -> ArrayVec<(u32, u32), 5>
+pub(crate) fn block_places(
+    view: &View,
+    part: Part,
+    region: u32,
+    block: u32,
+) -> ArrayVec<(u32, u32), 5>
     requires least { 1 ≤ region }
     requires most { region ≤ view.now.shape.regions }
     requires block { block < view.now.shape.blocks }
@@ -70,8 +75,8 @@ pub(crate) fn written_place(view: &View, part: Part, region: u32, block: u32, i:
     Place { node, at }
 }
 
-// The replica that is written at the i-th place of so many.
-fn written_replica(i: usize, count: usize) -> usize
+/// The replica that is written at the i-th place of so many.
+pub(crate) fn written_replica(i: usize, count: usize) -> usize
     requires { i < count }
     ensures replica { result ≡ written_replica i count }
     ensures within { result < count }
