@@ -1,4 +1,5 @@
-ghost use Rattle.std.specs.Prelude.{◌≡◌, ◌≤◌, [], length};
+ghost use Rattle.std.specs.Prelude.{◌≡◌, ◌≤◌, ◌<◌, ◌∷◌, [], IfNone, IfSome, length, remove};
+ghost use Rattle.kv_ops.specs.Places.{HasFirstAt, HasNone};
 ghost use Rattle.machine.specs.Remembered.{place_for, with_place};
 
 use arrayvec::ArrayVec;
@@ -11,19 +12,22 @@ const MOST_PLACES: usize = 16;
 /// The places at which a client found keys, each in its key's order of slots, the newest first.
 #[derive(Drop)]
 pub(crate) struct Remembered {
+    /// Each key with its place, where it was first put: a pair is large, so none is moved.
     pairs: ArrayVec<(ArrayVec<u8, 64>, usize), MOST_PLACES>,
+    /// Where the pairs are, from the newest to the oldest.
+    order: ArrayVec<usize, MOST_PLACES>,
 }
 
 impl Model for Remembered {
     ghost use Rattle.std.specs.Prelude.{List};
-    ghost use Rattle.kv_ops.specs.Places.{IsNewestAlone, pairs_of};
+    ghost use Rattle.kv_ops.specs.Places.{IsHeld, pairs_in};
     ghost use Rattle.machine.specs.Remembered.{Pair};
 
     ghost Value = { List Pair };
 
-    ghost view = { λ r. pairs_of r.pairs.items };
+    ghost view = { λ r. pairs_in r.pairs.items r.order.items };
 
-    ghost invariant = { λ r. IsNewestAlone (pairs_of r.pairs.items) };
+    ghost invariant = { λ r. IsHeld r.pairs.items r.order.items };
 }
 
 impl Remembered {
@@ -33,6 +37,7 @@ impl Remembered {
     {
         Remembered {
             pairs: ArrayVec::new(),
+            order: ArrayVec::new(),
         }
     }
 
@@ -40,26 +45,59 @@ impl Remembered {
     pub(crate) fn place_for(&self, key: &[u8]) -> usize
         ensures { result ≡ place_for self.now key.now }
     {
-        for i in 0..self.pairs.len() {
-            if self.pairs[i].0.as_slice() == key {
-                return self.pairs[i].1;
+        match self.rank_of(key) {
+            Some(rank) => self.pairs[self.order[rank]].1,
+            None => 0,
+        }
+    }
+
+    // The rank of the key's pair, counted from the newest.
+    fn rank_of(&self, key: &[u8]) -> Option<usize>
+        ensures some { IfSome result (λ rank. HasFirstAt self.now rank key.now) }
+        ensures none { IfNone result (HasNone self.now key.now) }
+    {
+        for i in 0..self.order.len() {
+            if self.pairs[self.order[i]].0.as_slice() == key {
+                return Some(i);
             }
         }
-        0
+        None
     }
 
     /// Remembers a place for the key, in place of an older one; the oldest pair goes where there are
-    /// too many. No pair moves where the key is that of the newest.
+    /// too many.
     pub(crate) fn remember(&mut self, key: &[u8], place: usize)
         requires { length key.now ≤ 64 }
         ensures { self.new ≡ with_place self.old key.now place }
     {
-        if !self.pairs.is_empty() && self.pairs[0].0.as_slice() == key {
-            self.pairs[0].1 = place;
-            return;
+        match self.rank_of(key) {
+            Some(rank) => self.renew(rank, key, place),
+            None if self.pairs.len() < MOST_PLACES => self.add(key, place),
+            None => self.renew(MOST_PLACES - 1, key, place),
         }
-        self.pairs.retain(|pair| pair.0.as_slice() != key);
-        self.pairs.truncate(MOST_PLACES - 1);
-        self.pairs.insert(0, (key_bytes(key), place));
+    }
+
+    // A pair of a key that none is of becomes the newest.
+    fn add(&mut self, key: &[u8], place: usize)
+        requires few { length key.now ≤ 64 }
+        requires room { length self.old < 16 }
+        requires none { HasNone self.old key.now }
+        ensures { self.new ≡ (key.now, place) ∷ self.old }
+    {
+        let at = self.pairs.len();
+        self.pairs.push((key_bytes(key), place));
+        self.order.insert(0, at);
+    }
+
+    // The pair of this rank makes way for one of the key, which becomes the newest.
+    fn renew(&mut self, rank: usize, key: &[u8], place: usize)
+        requires few { length key.now ≤ 64 }
+        requires rank { rank < length self.old }
+        requires others { HasNone (remove self.old rank) key.now }
+        ensures { self.new ≡ (key.now, place) ∷ remove self.old rank }
+    {
+        let at = self.order.remove(rank);
+        self.pairs[at] = (key_bytes(key), place);
+        self.order.insert(0, at);
     }
 }

@@ -1,35 +1,25 @@
-use Rattle.std.proofs.Common.{ℕ, ◌≡◌, ◌∷◌, length, arith, take, sym, ap, subst, ◌∙◌, rules}
-use Rattle.std.specs.List.{take-map}
-use Rattle.std.specs.Prelude.{bytes_eq, slice_index_or}
-use Rattle.std.proofs.lemmas.Grind.{common_steps}
-use Rattle.arrayvec.specs.ArrayVec.{ArrayVec}
-use Rattle.arrayvec.proofs.ArrayVecLemmas.{filter-from_retain}
-use Rattle.kv_ops.specs.Places.{IsNewestAlone, pair_of, pairs_of}
-use Rattle.kv_ops.proofs.PlaceLemmas.{is_other, pairs_of-filter, with_place-alone, with_place-newest}
-use Rattle.machine.specs.Remembered.{Pair, with_place}
+use Rattle.std.proofs.Common.{◌≡◌, ◌≤◌, ◌<◌, arith, length, sym, subst, ◌∙◌}
+use Rattle.kv_ops.specs.Places.{AreDistinct}
+use Rattle.kv_ops.proofs.PlaceLemmas.{HasNone-remove, HasNone-remove_first, length-value, with_place-add, with_place-full, with_place-renew}
 use Rattle.kv_ops.proofs.remembered.Remembered.remember.Goals as goal
 
--- what the pairs are, where the newest was of another key
-remembers : (c : goal.After-insert) → pairs_of c.insert.new.self.items ≡ with_place (pairs_of c.self.inside.pairs.items) c.args.key.now c.args.place
-remembers c =
-    let kept = filter-from_retain _ (is_other c.args.key.now) _ (λ x b f' y called. search rules) c.self.inside.pairs.items c.retain.new.self.items c.retain.ensures.filtered in
-    let others = ap pairs_of kept ∙ pairs_of-filter c.args.key.now c.self.inside.pairs.items in
-    let newest : Pair = (c.args.key.now, c.args.place) in
-    ap pairs_of c.insert.ensures.items
-    ∙ (λ i. (c.key_bytes.ensures i, c.args.place) ∷ pairs_of (c.truncate.ensures.items i))
-    ∙ ap (λ l. newest ∷ l) (sym (take-map pair_of 15 c.retain.new.self.items))
-    ∙ ap (λ l. newest ∷ take 15 l) others
+pub renew-requires-clause-others : goal.renew-requires-clause-others
+renew-requires-clause-others c = HasNone-remove_first c.args.self.now c.in-Some.rank c.args.key.now c.in-Some.ensures.some (subst AreDistinct c.self.view_is c.self.invariant.distinct)
 
-pub invariant_of-self-2 : goal.invariant_of-self-2
-invariant_of-self-2 c = subst IsNewestAlone (sym (remembers c)) (with_place-alone (pairs_of c.self.inside.pairs.items) c.args.key.now c.args.place)
+pub renew-requires-in-None-2-clause-others : goal.renew-requires-in-None-2-clause-others
+renew-requires-in-None-2-clause-others c = HasNone-remove c.args.self.now 15 c.args.key.now c.in-None.ensures.none
 
-pub returns : goal.returns
-returns c = remembers c ∙ ap (λ l. with_place l c.args.key.now c.args.place) c.self.view_is
+pub returns-in-Some : goal.returns-in-Some
+returns-in-Some c =
+    let few : length c.args.self.now ≤ 16 = omega (arith, length-value _ _ _ c.self.invariant c.self.view_is, c.self.invariant.few) in
+    c.renew.ensures ∙ sym (with_place-renew c.args.self.now c.in-Some.rank c.args.key.now c.args.place few c.in-Some.ensures.some (subst AreDistinct c.self.view_is c.self.invariant.distinct))
 
-pub returns-then-eq : goal.returns-then-eq
-returns-then-eq c =
-    let items = c.self.inside.pairs.items in
-    with_place-newest items c.deref_mut.result.now c.index-deref-0.result c.index-deref_mut-0.result c.args.key.now c.args.place c.deref_mut.ensures.value
-    (c.index-deref-0.is ∙ ap (λ l. slice_index_or l 0 c.index-deref-0.result) c.deref.ensures.0) (grind (arith, common_steps)) (omega (arith, c.deref_mut.ensures.fits, ap length c.deref_mut.ensures.value))
-    (ap (λ (pair : ArrayVec ℕ × ℕ). bytes_eq pair.0.items c.args.key.now) c.index-deref-0.is ∙ ap (λ l. bytes_eq l c.args.key.now) (sym c.as_slice.ensures.value) ∙ sym c.eq.ensures ∙ c.if-eq.true) c.self.invariant
-    ∙ ap (λ l. with_place l c.args.key.now c.args.place) c.self.view_is
+pub returns-in-None : goal.returns-in-None
+returns-in-None c =
+    let room : length c.args.self.now < 16 = omega (arith, length-value _ _ _ c.self.invariant c.self.view_is, c.len.ensures.value, c.if-len-lt-MOST_PLACES.true) in
+    c.add.ensures ∙ sym (with_place-add c.args.self.now c.args.key.now c.args.place room c.in-None.ensures.none)
+
+pub returns-in-None-2 : goal.returns-in-None-2
+returns-in-None-2 c =
+    let full : length c.args.self.now ≡ 16 = omega (arith, length-value _ _ _ c.self.invariant c.self.view_is, c.self.invariant.few, c.len.ensures.value, c.if-len-lt-MOST_PLACES.false) in
+    c.renew-in-None-2.ensures ∙ sym (with_place-full c.args.self.now c.args.key.now c.args.place full c.in-None.ensures.none)
