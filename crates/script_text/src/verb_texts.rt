@@ -1,9 +1,9 @@
 //! The line of a verb as text. There is one for each verb of a run, so it is made in place: no memory
 //! is asked for.
 
-ghost use Rattle.std.specs.Prelude.{◌≡◌, ◌+◌, ◌≤◌, ◌++◌, [], ◌∷◌, codes, length, true};
+ghost use Rattle.std.specs.Prelude.{◌≡◌, ◌+◌, ◌≤◌, ◌++◌, [], ◌∷◌, codes, false, length, true};
 ghost use Rattle.std.specs.Fmt.{decimal};
-ghost use Rattle.script_text.specs.OutputText.{joined, line_text, line_words, spaced};
+ghost use Rattle.script_text.specs.OutputText.{is_verb, joined, line_text, line_words, spaced};
 ghost use Rattle.script_text.specs.Shown.{actor_text, answer_text, word_text};
 ghost use Rattle.script_text.specs.declared.out_lines.OutLine.TheVariants.{VerbAdd, VerbRead, VerbSwap, VerbWrite};
 
@@ -15,10 +15,13 @@ use itoa::Buffer;
 /// Room for the line of any verb.
 pub const VERB_LINE: usize = 96;
 
-/// Appends the line of a verb with its line feed, and answers true; of any other line nothing, and false.
+/// Puts the line of a verb with its line feed, and answers true; of any other line nothing, and false.
+#[inline(always)]
 pub fn put_verb_line(into: &mut ArrayVec<u8, VERB_LINE>, out: &OutLine) -> bool
     requires { into.old.items ≡ [] }
-    ensures { result ≡ true → into.new.items ≡ line_text out.now }
+    ensures verb { result ≡ is_verb out.now }
+    ensures line { result ≡ true → into.new.items ≡ line_text out.now }
+    ensures other { result ≡ false → into.new.items ≡ [] }
 {
     match out {
         OutLine::VerbRead {

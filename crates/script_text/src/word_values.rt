@@ -18,7 +18,7 @@ pub(crate) fn bytes_of(alloc: Global, word: &[u8]) -> Result<Option<Text>, Alloc
 {
     match word.strip_prefix(b"x:") {
         Some(digits) => hex_bytes(alloc, digits),
-        None => Ok(Some(Text::of_vec(Vec::from_slice(alloc, word)?))),
+        None => Ok(Some(Text::of_slice(alloc, word)?)),
     }
 }
 
