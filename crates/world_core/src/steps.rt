@@ -78,9 +78,8 @@ impl World {
         ensures world { OnOk result (self.new ≡ acts late self.old client) }
         ensures same { OnErr result (self.new ≡ self.old) }
     {
-        let shape = self.shape;
         let taken = take_verb(
-            &shape,
+            &self.shape,
             &mut self.nodes,
             &mut self.clients,
             &mut self.ledger,
