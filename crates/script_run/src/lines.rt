@@ -5,6 +5,7 @@ ghost use Rattle.machine_world.specs.Events.{happens};
 ghost use Rattle.machine_world.specs.Refusals.{refusal};
 ghost use Rattle.machine_world.specs.declared.events.Event.TheVariants as events;
 ghost use Rattle.outside.specs.Faults.{IsSteady};
+ghost use Rattle.map_model.specs.declared.calls.Call.TheVariants as made;
 ghost use Rattle.script_meaning.specs.Lines.{calls, followed_by, is_settling, makes, meaning, most_verbs, once, only_calls, settles, takes_up_to, works_on};
 ghost use Rattle.script_run.specs.Turns.{number_in};
 ghost use Rattle.script_run.specs.Written.{Writes};
@@ -18,7 +19,7 @@ use crate::shown::{call_of, copy_call, copy_text};
 use crate::verbs::{Taker, advance, take_up_to};
 use crate::writing::{Unwritten, write_line};
 use outside::Sink;
-use script_text::{CallText, Line, OutLine};
+use script_text::{CallText, Line, OutLine, Text};
 use std::alloc::{AllocError, Global};
 use world_core::{Event, Happened, Task, World};
 
@@ -44,29 +45,11 @@ pub(crate) fn run_line<K: Sink>(
     match line {
         Line::Register => register(alloc, world, sink),
         Line::Put { client, key, value } => {
-            let key = copy_text(alloc, key)?;
-            let value = copy_text(alloc, value)?;
-            make(
-                alloc,
-                shows,
-                *client,
-                CallText::Put { key, value },
-                world,
-                sink,
-            )
+            make_put(alloc, shows, *client, key, value, world, sink)
         }
-        Line::Get { client, key } => {
-            let key = copy_text(alloc, key)?;
-            make(alloc, shows, *client, CallText::Get { key }, world, sink)
-        }
-        Line::Delete { client, key } => {
-            let key = copy_text(alloc, key)?;
-            make(alloc, shows, *client, CallText::Delete { key }, world, sink)
-        }
-        Line::Call { client, call } => {
-            let call = copy_call(alloc, call)?;
-            only_call(alloc, *client, call, world, sink)
-        }
+        Line::Get { client, key } => make_get(alloc, shows, *client, key, world, sink),
+        Line::Delete { client, key } => make_delete(alloc, shows, *client, key, world, sink),
+        Line::Call { client, call } => only_named_call(alloc, *client, call, world, sink),
         Line::Step { client, count } => {
             let taker = Taker::Client(*client);
             take_up_to(alloc, u64::from(*count), shows, taker, world, sink)
@@ -213,6 +196,26 @@ fn number_in(happened: Happened) -> u32
     }
 }
 
+// A call that a line names, and that takes no verb.
+fn only_named_call<K: Sink>(
+    alloc: Global,
+    client: u32,
+    call: &CallText,
+    world: &mut World,
+    sink: &mut K,
+) -> Result<(), Unwritten>
+    requires { world.old.events < 2 ^ 63 }
+    ensures written { Writes K.held K.faults sink.old sink.new result
+        (text_of (only_calls world.old client (call_of call.now)).lines) }
+    ensures world { OnOk result (world.new ≡ (only_calls world.old client (call_of call.now)).world) }
+    ensures few { OnOk result (world.new.events ≤ world.old.events + 1) }
+    ensures later { K.faults sink.old ≤ K.faults sink.new }
+    ensures steady { IsSteady K.cannot_fail K.faults sink.old sink.new }
+{
+    let call = copy_call(alloc, call)?;
+    only_call(alloc, client, call, world, sink)
+}
+
 // A call that takes no verb.
 fn only_call<K: Sink>(
     alloc: Global,
@@ -237,6 +240,78 @@ fn only_call<K: Sink>(
         Some(reason) => write_refusal(alloc, reason, sink),
         None => invoke(alloc, event, client, call, world, sink),
     }
+}
+
+// A put and its verbs.
+fn make_put<K: Sink>(
+    alloc: Global,
+    shows: bool,
+    client: u32,
+    key: &Text,
+    value: &Text,
+    world: &mut World,
+    sink: &mut K,
+) -> Result<(), Unwritten>
+    requires { world.old.events + (2 ^ 32 + 1) ≤ 2 ^ 63 }
+    ensures written { Writes K.held K.faults sink.old sink.new result
+        (text_of (makes shows world.old client (made.Put key.now value.now)).lines) }
+    ensures world { OnOk result (world.new ≡ (makes shows world.old client (made.Put key.now value.now)).world) }
+    ensures few { OnOk result (world.new.events ≤ world.old.events + (2 ^ 32 + 1)) }
+    ensures later { K.faults sink.old ≤ K.faults sink.new }
+    ensures steady { IsSteady K.cannot_fail K.faults sink.old sink.new }
+{
+    let key = copy_text(alloc, key)?;
+    let value = copy_text(alloc, value)?;
+    make(
+        alloc,
+        shows,
+        client,
+        CallText::Put { key, value },
+        world,
+        sink,
+    )
+}
+
+// A get and its verbs.
+fn make_get<K: Sink>(
+    alloc: Global,
+    shows: bool,
+    client: u32,
+    key: &Text,
+    world: &mut World,
+    sink: &mut K,
+) -> Result<(), Unwritten>
+    requires { world.old.events + (2 ^ 32 + 1) ≤ 2 ^ 63 }
+    ensures written { Writes K.held K.faults sink.old sink.new result
+        (text_of (makes shows world.old client (made.Get key.now)).lines) }
+    ensures world { OnOk result (world.new ≡ (makes shows world.old client (made.Get key.now)).world) }
+    ensures few { OnOk result (world.new.events ≤ world.old.events + (2 ^ 32 + 1)) }
+    ensures later { K.faults sink.old ≤ K.faults sink.new }
+    ensures steady { IsSteady K.cannot_fail K.faults sink.old sink.new }
+{
+    let key = copy_text(alloc, key)?;
+    make(alloc, shows, client, CallText::Get { key }, world, sink)
+}
+
+// A delete and its verbs.
+fn make_delete<K: Sink>(
+    alloc: Global,
+    shows: bool,
+    client: u32,
+    key: &Text,
+    world: &mut World,
+    sink: &mut K,
+) -> Result<(), Unwritten>
+    requires { world.old.events + (2 ^ 32 + 1) ≤ 2 ^ 63 }
+    ensures written { Writes K.held K.faults sink.old sink.new result
+        (text_of (makes shows world.old client (made.Delete key.now)).lines) }
+    ensures world { OnOk result (world.new ≡ (makes shows world.old client (made.Delete key.now)).world) }
+    ensures few { OnOk result (world.new.events ≤ world.old.events + (2 ^ 32 + 1)) }
+    ensures later { K.faults sink.old ≤ K.faults sink.new }
+    ensures steady { IsSteady K.cannot_fail K.faults sink.old sink.new }
+{
+    let key = copy_text(alloc, key)?;
+    make(alloc, shows, client, CallText::Delete { key }, world, sink)
 }
 
 // A call and its verbs.

@@ -103,16 +103,17 @@ fn bytes_of(alloc: Global, text: &Text) -> Result<Bytes, AllocError>
 pub(crate) fn copy_text(alloc: Global, text: &Text) -> Result<Text, AllocError>
     ensures { IfOk result (λ copy. copy ≡ text.now) }
 {
-    Ok(Text::of_vec(text.as_slice().to_vec(alloc)?))
+    Text::of_slice(alloc, text.as_slice())
 }
 
 fn text_of(alloc: Global, bytes: &Bytes) -> Result<Text, AllocError>
     ensures { IfOk result (λ text. text ≡ bytes.now) }
 {
-    Ok(Text::of_vec(bytes.as_slice().to_vec(alloc)?))
+    Text::of_slice(alloc, bytes.as_slice())
 }
 
 /// A verb that was taken, with its answer.
+#[inline(always)]
 pub(crate) fn shown_verb(seen: Seen) -> OutLine
     ensures { result ≡ shown_verb seen }
 {

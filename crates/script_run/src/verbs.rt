@@ -15,10 +15,11 @@ ghost use Rattle.script_text.specs.OutputText.{line_text, text_of};
 
 use crate::line_writing::{write_refusal, write_took};
 use crate::shown::{shown_verb, subject_of, told_by, told_of_step};
-use crate::writing::{Unwritten, write_line};
+use crate::writing::{Unwritten, write_all, write_line};
+use arrayvec::ArrayVec;
 use kv_ops::Step;
 use outside::Sink;
-use script_text::OutLine;
+use script_text::{OutLine, put_verb_line};
 use std::alloc::Global;
 use verb_history::Moment;
 use world_core::{Actor, Event, Happened, Seen, Taken, World};
@@ -180,19 +181,21 @@ fn write_taken<K: Sink>(
         verb: taken.verb,
         answer: taken.answer,
     };
-    match write_seen(alloc, seen, sink) {
+    match write_seen(seen, sink) {
         Ok(()) => write_step(alloc, client, taken.step, moments, sink),
         Err(why) => Err(why),
     }
 }
 
-// Writes a verb with its answer.
-fn write_seen<K: Sink>(alloc: Global, seen: Seen, sink: &mut K) -> Result<(), Unwritten>
+// Writes a verb with its answer. Its line is made in place.
+fn write_seen<K: Sink>(seen: Seen, sink: &mut K) -> Result<(), Unwritten>
     ensures written { Writes K.held K.faults sink.old sink.new result (line_text (shown_verb seen)) }
     ensures later { K.faults sink.old ≤ K.faults sink.new }
     ensures steady { IsSteady K.cannot_fail K.faults sink.old sink.new }
 {
-    write_line(alloc, &shown_verb(seen), sink)
+    let mut line = ArrayVec::new();
+    put_verb_line(&mut line, &shown_verb(seen));
+    write_all(line.as_slice(), sink)
 }
 
 // Takes a client's verb that is not to be written.
@@ -237,6 +240,24 @@ fn write_step<K: Sink>(
     if let Step::Going = step {
         return Ok(false);
     }
+    write_told_step(alloc, client, step, moments, sink)
+}
+
+// Apart from the path of a verb: few tell something, and a line takes much room.
+#[inline(never)]
+fn write_told_step<K: Sink>(
+    alloc: Global,
+    client: u32,
+    step: Step,
+    moments: &[Moment],
+    sink: &mut K,
+) -> Result<bool, Unwritten>
+    ensures written { Writes K.held K.faults sink.old sink.new result
+        (text_of (or_nothing (told_of_step client step (map moment_of moments.now)))) }
+    ensures told { IfOk result (λ is_told. is_told ≡ is_some (told_of_step client step (map moment_of moments.now))) }
+    ensures later { K.faults sink.old ≤ K.faults sink.new }
+    ensures steady { IsSteady K.cannot_fail K.faults sink.old sink.new }
+{
     let told = told_of_step(alloc, client, step, moments)?;
     write_told(alloc, told, sink)
 }
@@ -295,7 +316,7 @@ fn write_turn<K: Sink>(
     ensures later { K.faults sink.old ≤ K.faults sink.new }
     ensures steady { IsSteady K.cannot_fail K.faults sink.old sink.new }
 {
-    match write_verb(alloc, shows, happened, sink) {
+    match write_verb(shows, happened, sink) {
         Ok(()) => write_told_by(alloc, subject, happened, moments, sink),
         Err(why) => Err(why),
     }
@@ -318,12 +339,7 @@ fn write_told_by<K: Sink>(
     write_told(alloc, told, sink)
 }
 
-fn write_verb<K: Sink>(
-    alloc: Global,
-    shows: bool,
-    happened: Happened,
-    sink: &mut K,
-) -> Result<(), Unwritten>
+fn write_verb<K: Sink>(shows: bool, happened: Happened, sink: &mut K) -> Result<(), Unwritten>
     ensures written { Writes K.held K.faults sink.old sink.new result (text_of (verb_lines shows happened)) }
     ensures later { K.faults sink.old ≤ K.faults sink.new }
     ensures steady { IsSteady K.cannot_fail K.faults sink.old sink.new }
@@ -332,10 +348,10 @@ fn write_verb<K: Sink>(
         return Ok(());
     }
     match happened {
-        Happened::Stepped { seen, .. } => write_seen(alloc, seen, sink),
-        Happened::Recovering { seen, .. } => write_seen(alloc, seen, sink),
-        Happened::Settling { seen, .. } => write_seen(alloc, seen, sink),
-        Happened::Joining { seen, .. } => write_seen(alloc, seen, sink),
+        Happened::Stepped { seen, .. } => write_seen(seen, sink),
+        Happened::Recovering { seen, .. } => write_seen(seen, sink),
+        Happened::Settling { seen, .. } => write_seen(seen, sink),
+        Happened::Joining { seen, .. } => write_seen(seen, sink),
         Happened::Registered(_) => Ok(()),
         Happened::Invoked(_) => Ok(()),
         Happened::Stopped => Ok(()),
