@@ -1,10 +1,13 @@
 -- The entries that leave a value at their key are as many as the keys that have one.
-use Rattle.std.proofs.Common.{◌≡◌, ℕ, zero, suc, ◌+◌, ◌-◌, ◌<◌, ◌≤◌, length, drop, get_or, Bool, true, false, ◌&&◌, ◌||◌, List, [], ◌∷◌, Option, Some, None, bytes_eq, if◌then◌else◌, refl, sym, ap, ◌∙◌, arith}
+use Rattle.std.proofs.Common.{◌≡◌, ℕ, zero, suc, ◌+◌, ◌-◌, ◌<◌, ◌≤◌, length, drop, get_or, Bool, true, false, ◌&&◌, ◌||◌, List, [], ◌∷◌, Option, Some, None, bytes_eq, if◌then◌else◌, map, refl, sym, ap, ◌∙◌, arith}
 use Rattle.std.specs.Prelude.{count_by, is_none, is_some}
 use Rattle.std.specs.List.{list_any}
 use Rattle.std.proofs.Math.Seq.{drop-cons}
+use Rattle.std.proofs.lemmas.Simd.{map-map}
 use Rattle.std.proofs.lemmas.Slice.Eq.{bytes_eq-Decides}
 use Rattle.machine_world.specs.Calls.{key_of}
+use Rattle.machine_world.specs.Ledger.{entry_of, history_of, in_order}
+use Rattle.machine_world.specs.World.{World}
 use Rattle.map_model.specs.Map.{Map, after, empty_map, map_after}
 use Rattle.map_model.specs.declared.calls.Call.{Call}
 use Rattle.map_model.specs.declared.calls.Call.TheVariants.{Put, Delete}
@@ -14,6 +17,8 @@ use Rattle.map_model.specs.declared.entries.Entry.{Entry}
 use Rattle.sim_meaning.proofs.KeyLemmas.{map_after-other}
 use Rattle.sim_meaning.specs.Summary.{has_key, keys_in, values_after}
 use Rattle.sim_run.proofs.CountLemmas.{count-cons}
+use Rattle.verb_history.specs.Points.{entered_of}
+use Rattle.verb_history.specs.declared.points.Placed.{Placed}
 use Rattle.sim_run.specs.Keys.{decided_by, is_put, leaves_value, values_left, with_decided}
 
 -- What is decided of a key.
@@ -254,6 +259,28 @@ values-left (entry ∷ entries) =
     by : (t : Bool) → leaves ≡ t → values_left entries ≡ values_after entries → count_by (has_value_after entries) keys + count_by (λ key. t && bytes_eq own key) keys ≡ (if t then 1 else 0) + values_left entries
     by true is rest = omega (arith, count_kept entry entries, own_once entry entries, rest)
     by false is rest = omega (arith, count_kept entry entries, count_none (bytes_eq own) keys, rest)
+
+-- Which calls have returned does not matter.
+
+decided-unmarked : {X : Type 0} (world : World) (placed : X → Placed) (order : List X) → decided_by (map (λ one. entry_of world (entered_of (placed one))) order) ≡ decided_by (map (λ one. (placed one).entry) order)
+decided-unmarked world placed [] = refl
+decided-unmarked world placed (one ∷ order) = ap (with_decided (placed one).entry.call (placed one).entry.reply) (decided-unmarked world placed order)
+
+values_left-unmarked : {X : Type 0} (world : World) (placed : X → Placed) (order : List X) → values_left (map (λ one. entry_of world (entered_of (placed one))) order) ≡ values_left (map (λ one. (placed one).entry) order)
+values_left-unmarked world placed [] = refl
+values_left-unmarked world placed (one ∷ order) =
+    λ i. (if leaves_value (decided-unmarked world placed order i) (placed one).entry.call (placed one).entry.reply then 1 else 0) + values_left-unmarked world placed order i
+
+values_after-unmarked : {X : Type 0} (world : World) (placed : X → Placed) (order : List X) → values_after (map (λ one. entry_of world (entered_of (placed one))) order) ≡ values_after (map (λ one. (placed one).entry) order)
+values_after-unmarked world placed order =
+    sym (values-left (map (λ one. entry_of world (entered_of (placed one))) order)) ∙ values_left-unmarked world placed order ∙ values-left (map (λ one. (placed one).entry) order)
+
+-- the calls of a history in their order leave as many values as the history
+pub values_after-in_order : {X : Type 0} (world : World) (placed : X → Placed) (order : List X) → map (λ one. entered_of (placed one)) order ≡ in_order world.ledger.entries
+    → values_after (map (λ one. (placed one).entry) order) ≡ values_after (history_of world)
+unfolding history_of
+values_after-in_order world placed order is =
+    sym (values_after-unmarked world placed order) ∙ ap values_after (sym (map-map (entry_of world) (λ one. entered_of (placed one)) order) ∙ ap (map (entry_of world)) is)
 
 -- From the last entry on.
 

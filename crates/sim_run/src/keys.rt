@@ -1,13 +1,14 @@
 // How many keys have a value.
 
-ghost use Rattle.std.specs.Prelude.{◌≡◌, ◌≤◌, IfOk, OnOk, if◌then◌else◌};
+ghost use Rattle.std.specs.Prelude.{◌≡◌, ◌≤◌, IfOk, OnOk, if◌then◌else◌, map};
 ghost use Rattle.machine_world.specs.Ledger.{history_of};
 ghost use Rattle.map_model.specs.Held.{map_of};
 ghost use Rattle.sim_meaning.specs.Summary.{values_after};
 ghost use Rattle.sim_run.specs.Keys.{leaves_value, with_decided};
 
-use map_model::{Call, Entry, HeldMap, Reply};
+use map_model::{Call, HeldMap, Reply};
 use std::alloc::{AllocError, Global};
+use verb_history::Placed;
 use world_core::World;
 
 /// How many keys have a value after the history of a world. It takes time n log n in the number of
@@ -15,19 +16,19 @@ use world_core::World;
 pub(crate) fn count_keys(alloc: Global, world: &World) -> Result<usize, AllocError>
     ensures { IfOk result (λ count. count ≡ values_after (history_of world.now)) }
 {
-    let history = world.history()?;
-    let count = count_values(alloc, &history)?;
+    let order = world.in_order()?;
+    let count = count_values(alloc, order.as_slice())?;
     Ok(count)
 }
 
-// The entries are gone through from the last one on: what was decided of a key last holds.
-fn count_values(alloc: Global, entries: &[Entry]) -> Result<usize, AllocError>
-    ensures { IfOk result (λ count. count ≡ values_after entries.now) }
+// The calls are gone through from the last one on: what was decided of a key last holds.
+fn count_values(alloc: Global, order: &[&Placed]) -> Result<usize, AllocError>
+    ensures { IfOk result (λ count. count ≡ values_after (map (λ one. one.now.entry) order.now)) }
 {
     let mut decided = HeldMap::new(alloc);
     let mut count = 0;
-    for i in (0..entries.len()).rev() {
-        let entry = &entries[i];
+    for i in (0..order.len()).rev() {
+        let entry = &order[i].entry;
         count += decide(&mut decided, &entry.call, &entry.reply)?;
     }
     Ok(count)
