@@ -1,13 +1,14 @@
 -- The places that the program remembers are those of the machine.
-use Rattle.std.proofs.Common.{◌≡◌, ◌≢◌, ℕ, zero, suc, ◌<◌, ◌≤◌, true, All, List, [], ◌∷◌, ◌++◌, drop, filter, get_or, length, not, remove, set, take, refl, sym, ap, subst, ◌∙◌, arith}
+use Rattle.std.proofs.Common.{◌≡◌, ◌≢◌, ℕ, zero, suc, ◌<◌, ◌≤◌, Bool, true, false, All, List, [], ◌∷◌, ◌++◌, drop, filter, get_or, length, not, remove, set, take, refl, sym, ap, subst, ◌∙◌, arith}
 use Rattle.std.proofs.lemmas.Bool.{both_ways, not-true}
 use Rattle.std.proofs.lemmas.List.{drop-map, get_or-map, get_or-set_other, get_or-set_same, get_or_append_left, get_or_push, length-map, length-set, length_push, map-append, map-set, map_push, take-map, take_all, drop_all, append-nil}
 use Rattle.std.proofs.lemmas.List.Edits.{length-remove}
 use Rattle.std.proofs.lemmas.List.Elements.{All-append, All-cons, All-drop, All-head, All-tail, All-take, All-weaker, filter_passes}
 use Rattle.std.proofs.lemmas.Slice.Eq.{bytes_eq-Decides}
 use Rattle.arrayvec.specs.ArrayVec.{ArrayVec}
-use Rattle.kv_ops.specs.Places.{AreDistinct, HasFirstAt, HasNone, IsHeld, pair_of, pairs_in, pairs_of, picked}
+use Rattle.kv_ops.specs.Places.{AreDistinct, HasFirstAt, HasNone, IsHeld, IsOrder, hashes_of, pair_of, pairs_in, pairs_of, picked}
 use Rattle.machine.specs.Remembered.{Pair, is_of, place_for, with_place}
+use Rattle.slot_order.specs.Fnv.{fnv1a}
 
 -- a place within as many
 abbrev IsBelow : ℕ → ℕ → Type 0
@@ -112,20 +113,46 @@ others_elsewhere pairs (at ∷ order) (suc rank) within distinct =
     ((bytes_eq-Decides (get_or pairs that ([], 0)).0 key).1 (ap (λ o. (get_or pairs o ([], 0)).0) (sym same))))
     (others_elsewhere pairs order rank below distinct.1)
 
+-- a pair whose key has another hash is of another key
+pub is_of-other_hash : (key : List ℕ) (pair : Pair) → fnv1a pair.0 ≢ fnv1a key → is_of key pair ≡ false
+is_of-other_hash key pair apart = by (is_of key pair) refl
+  where
+    by : (same : Bool) → is_of key pair ≡ same → is_of key pair ≡ false
+    by true is = absurd (apart (ap fnv1a ((bytes_eq-Decides pair.0 key).0 is)))
+    by false is = is
+
+-- the hash of a pair that is put behind the others, and of one that is put over another
+pub hashes_of-add : (pairs : List (ArrayVec ℕ × ℕ)) (hashes : List ℕ) (pair : ArrayVec ℕ × ℕ) (hash : ℕ) → hashes ≡ hashes_of (pairs_of pairs) → hash ≡ fnv1a pair.0.items → hashes ++ hash ∷ [] ≡ hashes_of (pairs_of (pairs ++ pair ∷ []))
+hashes_of-add pairs hashes pair hash held is =
+    (λ i. held i ++ is i ∷ []) ∙ sym (map_push (λ (other : Pair). fnv1a other.0) (pairs_of pairs) (pair_of pair)) ∙ ap hashes_of (sym (map_push pair_of pairs pair))
+
+pub hashes_of-renew : (pairs : List (ArrayVec ℕ × ℕ)) (hashes : List ℕ) (at : ℕ) (pair : ArrayVec ℕ × ℕ) (hash : ℕ) → hashes ≡ hashes_of (pairs_of pairs) → hash ≡ fnv1a pair.0.items → set hashes at hash ≡ hashes_of (pairs_of (set pairs at pair))
+hashes_of-renew pairs hashes at pair hash held is =
+    (λ i. set (held i) at (is i)) ∙ sym (map-set (λ (other : Pair). fnv1a other.0) (pairs_of pairs) at (pair_of pair)) ∙ ap hashes_of (sym (map-set pair_of pairs at pair))
+
+-- the hash of the pair of a rank
+pub get_or-hashes : (pairs : List (ArrayVec ℕ × ℕ)) (hashes order : List ℕ) (rank : ℕ) → IsHeld pairs hashes order → rank < length order → get_or hashes (get_or order rank 0) 0 ≡ fnv1a (get_or (pairs_in pairs order) rank ([], 0)).0
+get_or-hashes pairs hashes order rank held within =
+    let at = get_or order rank 0 in
+    let inside : at < length (pairs_of pairs) = omega (arith, held.ordered.within rank 0 within, length-map pairs pair_of) in
+    ap (λ l. get_or l at 0) held.hashed
+    ∙ get_or-map (λ (other : Pair). fnv1a other.0) (pairs_of pairs) at ([], 0) 0 inside
+    ∙ ap (λ (pair : Pair). fnv1a pair.0) (sym (get_or-map (λ place. get_or (pairs_of pairs) place ([], 0)) order rank 0 ([], 0) within))
+
 -- the pair of a rank
-pub get_or-pairs_in : (pairs : List (ArrayVec ℕ × ℕ)) (order : List ℕ) (rank : ℕ) (d : ArrayVec ℕ × ℕ) → IsHeld pairs order → rank < length order → get_or (pairs_in pairs order) rank ([], 0) ≡ pair_of (get_or pairs (get_or order rank 0) d)
+pub get_or-pairs_in : (pairs : List (ArrayVec ℕ × ℕ)) (order : List ℕ) (rank : ℕ) (d : ArrayVec ℕ × ℕ) → IsOrder pairs order → rank < length order → get_or (pairs_in pairs order) rank ([], 0) ≡ pair_of (get_or pairs (get_or order rank 0) d)
 get_or-pairs_in pairs order rank d held within =
     get_or-map (λ at. get_or (pairs_of pairs) at ([], 0)) order rank 0 ([], 0) within ∙ get_or-map pair_of pairs (get_or order rank 0) d ([], 0) (held.within rank 0 within)
 
 -- as many pairs as are stored
-pub length-pairs_in : (pairs : List (ArrayVec ℕ × ℕ)) (order : List ℕ) → IsHeld pairs order → length (pairs_in pairs order) ≡ length pairs
+pub length-pairs_in : (pairs : List (ArrayVec ℕ × ℕ)) (order : List ℕ) → IsOrder pairs order → length (pairs_in pairs order) ≡ length pairs
 length-pairs_in pairs order held = length-map order (λ (at : ℕ). get_or (pairs_of pairs) at ([], 0)) ∙ held.each
 
-pub length-value : (pairs : List (ArrayVec ℕ × ℕ)) (order : List ℕ) (value : List Pair) → IsHeld pairs order → pairs_in pairs order ≡ value → length value ≡ length pairs
+pub length-value : (pairs : List (ArrayVec ℕ × ℕ)) (order : List ℕ) (value : List Pair) → IsOrder pairs order → pairs_in pairs order ≡ value → length value ≡ length pairs
 length-value pairs order value held is = ap length (sym is) ∙ length-pairs_in pairs order held
 
 -- a pair at the end of the storage, and its place at the front of the order
-pub pairs_in-add : (pairs : List (ArrayVec ℕ × ℕ)) (order : List ℕ) (pair : ArrayVec ℕ × ℕ) → IsHeld pairs order → pairs_in (pairs ++ pair ∷ []) (length pairs ∷ order) ≡ pair_of pair ∷ pairs_in pairs order
+pub pairs_in-add : (pairs : List (ArrayVec ℕ × ℕ)) (order : List ℕ) (pair : ArrayVec ℕ × ℕ) → IsOrder pairs order → pairs_in (pairs ++ pair ∷ []) (length pairs ∷ order) ≡ pair_of pair ∷ pairs_in pairs order
 pairs_in-add pairs order pair held =
     let long = length-map pairs pair_of in
     let here : get_or (pairs_of pairs ++ pair_of pair ∷ []) (length pairs) ([], 0) ≡ pair_of pair = get_or_push (pairs_of pairs) (pair_of pair) ([], 0) (length pairs) long in
@@ -134,8 +161,8 @@ pairs_in-add pairs order pair held =
     (λ at within. get_or_append_left (pairs_of pairs) (pair_of pair ∷ []) ([], 0) at (omega (arith, long, within))) order held.within) in
     ap (λ l. picked l (length pairs ∷ order)) (map_push pair_of pairs pair) ∙ (λ i. here i ∷ rest i)
 
-pub IsHeld-add : (pairs : List (ArrayVec ℕ × ℕ)) (order : List ℕ) (pair : ArrayVec ℕ × ℕ) → IsHeld pairs order → length pairs < 16 → HasNone (pairs_in pairs order) pair.0.items → IsHeld (pairs ++ pair ∷ []) (length pairs ∷ order)
-IsHeld-add pairs order pair held room none =
+pub IsOrder-add : (pairs : List (ArrayVec ℕ × ℕ)) (order : List ℕ) (pair : ArrayVec ℕ × ℕ) → IsOrder pairs order → length pairs < 16 → HasNone (pairs_in pairs order) pair.0.items → IsOrder (pairs ++ pair ∷ []) (length pairs ∷ order)
+IsOrder-add pairs order pair held room none =
     let longer = length_push pairs pair in
     record {
       within = All-cons (IsBelow (length (pairs ++ pair ∷ []))) (length pairs) order (omega (arith, longer))
@@ -146,7 +173,7 @@ IsHeld-add pairs order pair held room none =
     }
 
 -- a pair written over that of a rank, whose place comes to the front of the order
-pub pairs_in-renew : (pairs : List (ArrayVec ℕ × ℕ)) (order : List ℕ) (rank : ℕ) (pair : ArrayVec ℕ × ℕ) → IsHeld pairs order → rank < length order
+pub pairs_in-renew : (pairs : List (ArrayVec ℕ × ℕ)) (order : List ℕ) (rank : ℕ) (pair : ArrayVec ℕ × ℕ) → IsOrder pairs order → rank < length order
     → pairs_in (set pairs (get_or order rank 0) pair) (get_or order rank 0 ∷ remove order rank) ≡ pair_of pair ∷ remove (pairs_in pairs order) rank
 pairs_in-renew pairs order rank pair held within =
     let at = get_or order rank 0 in
@@ -159,9 +186,9 @@ pairs_in-renew pairs order rank pair held within =
     ∙ picked-remove (pairs_of pairs) order rank in
     ap (λ l. picked l (at ∷ remove order rank)) (map-set pair_of pairs at pair) ∙ (λ i. here i ∷ rest i)
 
-pub IsHeld-renew : (pairs : List (ArrayVec ℕ × ℕ)) (order : List ℕ) (rank : ℕ) (pair : ArrayVec ℕ × ℕ) → IsHeld pairs order → rank < length order
-    → HasNone (remove (pairs_in pairs order) rank) pair.0.items → IsHeld (set pairs (get_or order rank 0) pair) (get_or order rank 0 ∷ remove order rank)
-IsHeld-renew pairs order rank pair held within none =
+pub IsOrder-renew : (pairs : List (ArrayVec ℕ × ℕ)) (order : List ℕ) (rank : ℕ) (pair : ArrayVec ℕ × ℕ) → IsOrder pairs order → rank < length order
+    → HasNone (remove (pairs_in pairs order) rank) pair.0.items → IsOrder (set pairs (get_or order rank 0) pair) (get_or order rank 0 ∷ remove order rank)
+IsOrder-renew pairs order rank pair held within none =
     let at = get_or order rank 0 in
     let same = length-set pairs at pair in
     let still : All (IsBelow (length (set pairs at pair))) order = All-weaker (IsBelow (length pairs)) (IsBelow (length (set pairs at pair))) (λ place inside. omega (arith, same, inside)) order held.within in

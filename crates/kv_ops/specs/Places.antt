@@ -3,6 +3,7 @@ use Rattle.std.specs.Prelude.{ℕ, ◌≡◌, ◌<◌, ◌≤◌, true, List, []
 use Rattle.std.specs.List.{All, AllPass}
 use Rattle.arrayvec.specs.ArrayVec.{ArrayVec}
 use Rattle.machine.specs.Remembered.{Pair, is_of}
+use Rattle.slot_order.specs.Fnv.{fnv1a}
 
 abbrev pub pair_of : ArrayVec ℕ × ℕ → Pair
 pair_of pair = (pair.0.items, pair.1)
@@ -33,9 +34,18 @@ pub record HasFirstAt (pairs : List Pair) (rank : ℕ) (key : List ℕ) : Type 0
   pub own : is_of key (slice_index_or pairs rank ([], 0)) ≡ true
   pub others : HasNone (take rank pairs) key
 
+-- the hashes of the pairs' keys
+abbrev pub hashes_of : List Pair → List ℕ
+hashes_of pairs = map (λ pair. fnv1a pair.0) pairs
+
 -- each place in the order is that of a pair, there are as many as pairs, 16 at most, and no two pairs are of one key
-pub record IsHeld (pairs : List (ArrayVec ℕ × ℕ)) (order : List ℕ) : Type 0 where
+pub record IsOrder (pairs : List (ArrayVec ℕ × ℕ)) (order : List ℕ) : Type 0 where
   pub within : All (λ at. at < length pairs) order
   pub each : length order ≡ length pairs
   pub few : length pairs ≤ 16
   pub distinct : AreDistinct (pairs_in pairs order)
+
+-- pairs, the hashes of their keys, and their order
+pub record IsHeld (pairs : List (ArrayVec ℕ × ℕ)) (hashes order : List ℕ) : Type 0 where
+  pub ordered : IsOrder pairs order
+  pub hashed : hashes ≡ hashes_of (pairs_of pairs)

@@ -1,4 +1,4 @@
-ghost use Rattle.std.specs.Prelude.{◌≡◌, ◌<◌, ◌%◌, ◌^◌, ◌==◌, true, length};
+ghost use Rattle.std.specs.Prelude.{◌≡◌, ◌≤◌, ◌<◌, ◌%◌, ◌^◌, ◌==◌, true, length, Some};
 ghost use Rattle.kv_find.specs.Readings.{HasRoom};
 ghost use Rattle.kv_ops.specs.Callers.{client_of, turn_of};
 ghost use Rattle.kv_ops.specs.Stages.{kept_as};
@@ -6,23 +6,26 @@ ghost use Rattle.kv_ops.specs.Standings.{IsApart, IsOfClass, IsReadyUnder, OwnsO
 ghost use Rattle.machine.specs.Choosing.{IsTaken};
 ghost use Rattle.machine.specs.Client.{absent, chooses, chooses_for, cleared, ends, fetches, finds_on, fresh_of, gives_back, goes_to, is_beaten, kept_of, kind_of, link_of, logs, on_changed, on_kind, on_took, refused, remembers, resolution_for, search_of, slot_of, view_of, won, write_body};
 ghost use Rattle.machine.specs.EpochRead.{IsView};
-ghost use Rattle.machine.specs.ObjectNames.{names_object};
+ghost use Rattle.machine.specs.ObjectNames.{names_object, pointer_in};
 ghost use Rattle.machine.specs.SlotWrite.{slot_write_of};
 ghost use Rattle.machine.specs.Stage as stage;
-ghost use Rattle.object_form.specs.Class.{class_in};
-ghost use Rattle.object_form.specs.declared.classes.TheConstants.{CLASSES};
+ghost use Rattle.machine.specs.ValueRead.{value_read_of};
+ghost use Rattle.machine.specs.WordsWrite.{body_of, words_write_of};
+ghost use Rattle.object_form.specs.Class.{IsKeyLength, class_in};
+ghost use Rattle.object_form.specs.declared.classes.TheConstants.{CLASSES, LONGEST};
 ghost use Rattle.slot_order.specs.Slots.{order_of};
 
 use crate::callers::Caller;
 use crate::calls::Operation;
 use crate::stages::{Kept, Stage};
 use key_test::{KeyTest, candidate_in, object_in};
-use kv_find::{Find, Found, value};
-use kv_write::{body, log, resolving};
+use kv_find::{Find, Found, ReadValue, value};
+use kv_write::{ObjectWrite, body, log, resolving};
 use machine::client_call::{Outcome, Step};
 use object_alloc::{Took, change};
 use object_form::{Kind, Link, class_for, units};
 use race_slot::{Slot, pack};
+use region_view::View;
 use slot_order::{finger, order};
 use snapshot_write::SlotWrite;
 use verb_words::Why;
@@ -259,7 +262,7 @@ impl Caller {
         let (key, value) = (self.key.as_slice(), self.value.as_slice());
         match &mut self.body {
             Some(write) => write.begin(view, self.object, link, kind, key, value),
-            None => self.body = Some(body(view, self.object, link, kind, key, value)),
+            None => first_body(&mut self.body, view, self.object, link, kind, key, value),
         }
         self.stage = Stage::Body;
         Step::Going
@@ -375,7 +378,7 @@ impl Caller {
         let (view, key_len) = (self.view(), self.key.len() as u32);
         match &mut self.reading {
             Some(reading) => reading.begin(view, word, key_len, value_len),
-            None => self.reading = Some(value(view, word, key_len, value_len)),
+            None => first_reading(&mut self.reading, view, word, key_len, value_len),
         }
         self.stage = Stage::Fetch;
         Step::Going
@@ -456,4 +459,41 @@ impl Caller {
         self.stage = Stage::Find(find);
         Step::Going
     }
+}
+
+// A client's first reading and first writing are made in functions of their own, since they are large:
+// where all of them are made, the memory of one that is made would be cleared each time.
+
+#[inline(never)]
+fn first_reading(
+    reading: &mut Option<ReadValue>,
+    view: View,
+    word: u64,
+    key_len: u32,
+    value_len: u32,
+)
+    requires object { HasRoom view.shape word key_len value_len }
+    requires some { 1 ≤ value_len }
+    ensures { reading.new ≡ Some (value_read_of view (pointer_in word) key_len value_len) }
+{
+    *reading = Some(value(view, word, key_len, value_len));
+}
+
+#[inline(never)]
+fn first_body(
+    write: &mut Option<ObjectWrite>,
+    view: View,
+    object: u32,
+    link: Link,
+    kind: Kind,
+    key: &[u8],
+    value: &[u8],
+)
+    requires key { IsKeyLength (length key.now) }
+    requires value { length value.now ≤ LONGEST }
+    requires object { names_object view.shape
+        (class_in (length key.now) (length value.now)) object ≡ true }
+    ensures { write.new ≡ Some (words_write_of view object (body_of kind key.now value.now link)) }
+{
+    *write = Some(body(view, object, link, kind, key, value));
 }
