@@ -1,4 +1,5 @@
 pub mod Working
+pub mod Fields
 pub mod Reached
 pub mod Told
 pub mod Dues

@@ -43,35 +43,15 @@ pub struct World {
 }
 
 impl Model for World {
-    ghost use Rattle.std.specs.Prelude.{◌∷◌, map};
-    ghost use Rattle.machine_world.specs.World.{World, nobody};
-    ghost use Rattle.verb_history.specs.Moments.{moment_of};
+    ghost use Rattle.machine_world.specs.World.{World};
+    ghost use Rattle.world_core.specs.Fields.{world_of};
     ghost use Rattle.world_core.specs.Reached.{IsRun};
-    ghost use Rattle.world_core.specs.Working.{task_of};
 
     ghost Value = { World };
 
-    ghost view = { λ w. record {
-      shape = w.shape;
-      nodes = w.nodes;
-      clients = nobody w.shape ∷ w.clients.items;
-      master = record { task = task_of w.task; won = w.won; settled = w.settled; recovered = w.recovered };
-      stopped = w.stopped;
-      trace = map moment_of w.trace.items;
-      ledger = w.ledger.ledger;
-      events = w.events;
-    } };
+    ghost view = { λ w. world_of w };
 
-    ghost invariant = { λ w. IsRun (record {
-      shape = w.shape;
-      nodes = w.nodes;
-      clients = nobody w.shape ∷ w.clients.items;
-      master = record { task = task_of w.task; won = w.won; settled = w.settled; recovered = w.recovered };
-      stopped = w.stopped;
-      trace = map moment_of w.trace.items;
-      ledger = w.ledger.ledger;
-      events = w.events;
-    }) };
+    ghost invariant = { λ w. IsRun (world_of w) };
 }
 
 impl World {

@@ -1,10 +1,10 @@
 use Rattle.std.proofs.Common.{◌≡◌, ◌∷◌, ◌++◌, [], ◌+◌, ap, arith, length, map, refl, subst, sym, ◌∙◌, None}
 use Rattle.machine_world.specs.Refusals.{refusal}
-use Rattle.machine_world.specs.World.{World, client_at, nobody}
+use Rattle.machine_world.specs.World.{client_at}
 use Rattle.machine_world.specs.declared.events.Event.TheVariants as event
 use Rattle.verb_history.specs.Moments.{moment_of}
+use Rattle.world_core.specs.Fields.{world_of}
 use Rattle.world_core.specs.Reached.{IsRun}
-use Rattle.world_core.specs.Working.{task_of}
 use Rattle.std.proofs.Common.{◌-◌}
 use Rattle.std.proofs.lemmas.List.{map_push}
 use Rattle.map_model.specs.Trace.{Invoked}
@@ -22,16 +22,7 @@ use Rattle.world_core.proofs.worlds.World.invoke.Goals as goal
 
 pub invoke-requires-clause-idle : goal.invoke-requires-clause-idle
 invoke-requires-clause-idle c =
-    let world : World = record {
-      shape = c.self.inside.shape;
-      nodes = c.self.inside.nodes;
-      clients = nobody c.self.inside.shape ∷ c.self.inside.clients.items;
-      master = record { task = task_of c.self.inside.task; won = c.self.inside.won; settled = c.self.inside.settled; recovered = c.self.inside.recovered };
-      stopped = c.self.inside.stopped;
-      trace = map moment_of c.self.inside.trace.items;
-      ledger = c.self.inside.ledger.ledger;
-      events = c.self.inside.events;
-    } in
+    let world = world_of c.self.inside in
     let allowed : refusal world (event.Invoke c.args.client c.args.call) ≡ None = ap (λ w. refusal w (event.Invoke c.args.client c.args.call)) c.self.view_is ∙ c.requires.allowed in
     let known = call-allowed world c.args.client c.args.call allowed in
     let found = found-client c.self.inside.shape c.self.inside.clients.items (c.args.client - 1) c.index_mut-actor.result.now (omega (arith, known.0, known.1)) c.index_mut-actor.ensures.value in
@@ -40,16 +31,7 @@ invoke-requires-clause-idle c =
 
 pub invoke-requires-clause-allowed : goal.invoke-requires-clause-allowed
 invoke-requires-clause-allowed c =
-    let world : World = record {
-      shape = c.self.inside.shape;
-      nodes = c.self.inside.nodes;
-      clients = nobody c.self.inside.shape ∷ c.self.inside.clients.items;
-      master = record { task = task_of c.self.inside.task; won = c.self.inside.won; settled = c.self.inside.settled; recovered = c.self.inside.recovered };
-      stopped = c.self.inside.stopped;
-      trace = map moment_of c.self.inside.trace.items;
-      ledger = c.self.inside.ledger.ledger;
-      events = c.self.inside.events;
-    } in
+    let world = world_of c.self.inside in
     let allowed : refusal world (event.Invoke c.args.client c.args.call) ≡ None = ap (λ w. refusal w (event.Invoke c.args.client c.args.call)) c.self.view_is ∙ c.requires.allowed in
     let known = call-allowed world c.args.client c.args.call allowed in
     let found = found-client c.self.inside.shape c.self.inside.clients.items (c.args.client - 1) c.index_mut-actor.result.now (omega (arith, known.0, known.1)) c.index_mut-actor.ensures.value in
@@ -58,16 +40,7 @@ invoke-requires-clause-allowed c =
 
 pub invariant_of-self-2 : goal.invariant_of-self-2
 invariant_of-self-2 c =
-    let world : World = record {
-      shape = c.self.inside.shape;
-      nodes = c.self.inside.nodes;
-      clients = nobody c.self.inside.shape ∷ c.self.inside.clients.items;
-      master = record { task = task_of c.self.inside.task; won = c.self.inside.won; settled = c.self.inside.settled; recovered = c.self.inside.recovered };
-      stopped = c.self.inside.stopped;
-      trace = map moment_of c.self.inside.trace.items;
-      ledger = c.self.inside.ledger.ledger;
-      events = c.self.inside.events;
-    } in
+    let world = world_of c.self.inside in
     let allowed : refusal world (event.Invoke c.args.client c.args.call) ≡ None = ap (λ w. refusal w (event.Invoke c.args.client c.args.call)) c.self.view_is ∙ c.requires.allowed in
     let known = call-allowed world c.args.client c.args.call allowed in
     let found = found-client c.self.inside.shape c.self.inside.clients.items (c.args.client - 1) c.index_mut-actor.result.now (omega (arith, known.0, known.1)) c.index_mut-actor.ensures.value in
@@ -81,16 +54,7 @@ invariant_of-self-2 c =
 
 pub returns-clause-happened : goal.returns-clause-happened
 returns-clause-happened c =
-    let world : World = record {
-      shape = c.self.inside.shape;
-      nodes = c.self.inside.nodes;
-      clients = nobody c.self.inside.shape ∷ c.self.inside.clients.items;
-      master = record { task = task_of c.self.inside.task; won = c.self.inside.won; settled = c.self.inside.settled; recovered = c.self.inside.recovered };
-      stopped = c.self.inside.stopped;
-      trace = map moment_of c.self.inside.trace.items;
-      ledger = c.self.inside.ledger.ledger;
-      events = c.self.inside.events;
-    } in
+    let world = world_of c.self.inside in
     let allowed : refusal world (event.Invoke c.args.client c.args.call) ≡ None = ap (λ w. refusal w (event.Invoke c.args.client c.args.call)) c.self.view_is ∙ c.requires.allowed in
     let known = call-allowed world c.args.client c.args.call allowed in
     let found = found-client c.self.inside.shape c.self.inside.clients.items (c.args.client - 1) c.index_mut-actor.result.now (omega (arith, known.0, known.1)) c.index_mut-actor.ensures.value in
@@ -99,16 +63,7 @@ returns-clause-happened c =
 
 pub returns-clause-world : goal.returns-clause-world
 returns-clause-world c =
-    let world : World = record {
-      shape = c.self.inside.shape;
-      nodes = c.self.inside.nodes;
-      clients = nobody c.self.inside.shape ∷ c.self.inside.clients.items;
-      master = record { task = task_of c.self.inside.task; won = c.self.inside.won; settled = c.self.inside.settled; recovered = c.self.inside.recovered };
-      stopped = c.self.inside.stopped;
-      trace = map moment_of c.self.inside.trace.items;
-      ledger = c.self.inside.ledger.ledger;
-      events = c.self.inside.events;
-    } in
+    let world = world_of c.self.inside in
     let allowed : refusal world (event.Invoke c.args.client c.args.call) ≡ None = ap (λ w. refusal w (event.Invoke c.args.client c.args.call)) c.self.view_is ∙ c.requires.allowed in
     let known = call-allowed world c.args.client c.args.call allowed in
     let found = found-client c.self.inside.shape c.self.inside.clients.items (c.args.client - 1) c.index_mut-actor.result.now (omega (arith, known.0, known.1)) c.index_mut-actor.ensures.value in

@@ -1,8 +1,9 @@
 use Rattle.std.proofs.Common.{◌≡◌, ◌∷◌, ◌++◌, [], ◌+◌, ap, arith, length, map, subst, sym, ◌∙◌, None}
 use Rattle.machine_world.specs.Refusals.{refusal}
-use Rattle.machine_world.specs.World.{World, nobody}
+use Rattle.machine_world.specs.World.{nobody}
 use Rattle.machine_world.specs.declared.events.Event.TheVariants as event
 use Rattle.verb_history.specs.Moments.{moment_of}
+use Rattle.world_core.specs.Fields.{world_of}
 use Rattle.world_core.specs.Reached.{IsRun}
 use Rattle.world_core.specs.Working.{task_of}
 use Rattle.world_core.proofs.ReachedLemmas.{occurs-run}
@@ -12,31 +13,13 @@ use Rattle.world_core.proofs.worlds.World.register.Goals as goal
 
 pub register-requires : goal.register-requires
 register-requires c =
-    let world : World = record {
-      shape = c.self.inside.shape;
-      nodes = c.self.inside.nodes;
-      clients = nobody c.self.inside.shape ∷ c.self.inside.clients.items;
-      master = record { task = task_of c.self.inside.task; won = c.self.inside.won; settled = c.self.inside.settled; recovered = c.self.inside.recovered };
-      stopped = c.self.inside.stopped;
-      trace = map moment_of c.self.inside.trace.items;
-      ledger = c.self.inside.ledger.ledger;
-      events = c.self.inside.events;
-    } in
+    let world = world_of c.self.inside in
     let allowed : refusal world event.Register ≡ None = ap (λ w. refusal w event.Register) c.self.view_is ∙ c.requires.allowed in
     reads-left world c.self.invariant allowed
 
 pub invariant_of-self-2 : goal.invariant_of-self-2
 invariant_of-self-2 c =
-    let world : World = record {
-      shape = c.self.inside.shape;
-      nodes = c.self.inside.nodes;
-      clients = nobody c.self.inside.shape ∷ c.self.inside.clients.items;
-      master = record { task = task_of c.self.inside.task; won = c.self.inside.won; settled = c.self.inside.settled; recovered = c.self.inside.recovered };
-      stopped = c.self.inside.stopped;
-      trace = map moment_of c.self.inside.trace.items;
-      ledger = c.self.inside.ledger.ledger;
-      events = c.self.inside.events;
-    } in
+    let world = world_of c.self.inside in
     let allowed : refusal world event.Register ≡ None = ap (λ w. refusal w event.Register) c.self.view_is ∙ c.requires.allowed in
     let number : c.len.result + 1 ≡ length world.clients = omega (arith, c.len.ensures) in
     let clients = c.push_reserved.ensures.items

@@ -4,10 +4,11 @@ use Rattle.machine.specs.Joining as joinings
 use Rattle.machine_world.specs.Events.{also_if, opens, works}
 use Rattle.machine_world.specs.Ledger.{with_opening}
 use Rattle.machine_world.specs.Refusals.{refusal}
-use Rattle.machine_world.specs.World.{Joins, NoTask, Recovers, Settles, World, nobody}
+use Rattle.machine_world.specs.World.{Joins, NoTask, Recovers, Settles, nobody}
 use Rattle.machine_world.specs.declared.events.Event.TheVariants as event
 use Rattle.verb_history.specs.Moments.{moment_of}
 use Rattle.verb_words.specs.Applied.{answer_to, words_after}
+use Rattle.world_core.specs.Fields.{world_of}
 use Rattle.world_core.specs.Openings.{CanOpen, opening_world}
 use Rattle.world_core.specs.Reached.{IsRun}
 use Rattle.world_core.specs.Steps.{client_in}
@@ -20,102 +21,39 @@ use Rattle.world_core.proofs.worlds.World.work.Goals as goal
 
 pub settle-requires-clause-before : goal.settle-requires-clause-before
 settle-requires-clause-before c =
-    let world : World = record {
-      shape = c.self.inside.shape;
-      nodes = c.self.inside.nodes;
-      clients = nobody c.self.inside.shape ∷ c.self.inside.clients.items;
-      master = record { task = task_of c.self.inside.task; won = c.self.inside.won; settled = c.self.inside.settled; recovered = c.self.inside.recovered };
-      stopped = c.self.inside.stopped;
-      trace = map moment_of c.self.inside.trace.items;
-      ledger = c.self.inside.ledger.ledger;
-      events = c.self.inside.events;
-    } in
+    let world = world_of c.self.inside in
     subst (λ list. CanOpen c.self.inside.shape c.self.inside.nodes list c.self.inside.ledger.ledger) (sym c.as_slice.ensures.value) (run-can_open world c.self.inside.clients.items c.self.invariant refl)
 
 pub settle-requires-clause-place : goal.settle-requires-clause-place
 settle-requires-clause-place c =
-    let world : World = record {
-      shape = c.self.inside.shape;
-      nodes = c.self.inside.nodes;
-      clients = nobody c.self.inside.shape ∷ c.self.inside.clients.items;
-      master = record { task = task_of c.self.inside.task; won = c.self.inside.won; settled = c.self.inside.settled; recovered = c.self.inside.recovered };
-      stopped = c.self.inside.stopped;
-      trace = map moment_of c.self.inside.trace.items;
-      ledger = c.self.inside.ledger.ledger;
-      events = c.self.inside.events;
-    } in
+    let world = world_of c.self.inside in
     settling-place world c.in-Settle.settling c.self.invariant (ap task_of c.in-Settle.is)
 
 pub index-requires : goal.index-requires
 index-requires c =
-    let world : World = record {
-      shape = c.self.inside.shape;
-      nodes = c.self.inside.nodes;
-      clients = nobody c.self.inside.shape ∷ c.self.inside.clients.items;
-      master = record { task = task_of c.self.inside.task; won = c.self.inside.won; settled = c.self.inside.settled; recovered = c.self.inside.recovered };
-      stopped = c.self.inside.stopped;
-      trace = map moment_of c.self.inside.trace.items;
-      ledger = c.self.inside.ledger.ledger;
-      events = c.self.inside.events;
-    } in
+    let world = world_of c.self.inside in
     let task = ap task_of c.in-Recover.is in
     let known = recovered-client world c.in-Recover.recovery c.self.invariant task in
     omega (arith, known.0, known.1, c.client-client.ensures)
 
 pub recover-requires-clause-ready : goal.recover-requires-clause-ready
 recover-requires-clause-ready c =
-    let world : World = record {
-      shape = c.self.inside.shape;
-      nodes = c.self.inside.nodes;
-      clients = nobody c.self.inside.shape ∷ c.self.inside.clients.items;
-      master = record { task = task_of c.self.inside.task; won = c.self.inside.won; settled = c.self.inside.settled; recovered = c.self.inside.recovered };
-      stopped = c.self.inside.stopped;
-      trace = map moment_of c.self.inside.trace.items;
-      ledger = c.self.inside.ledger.ledger;
-      events = c.self.inside.events;
-    } in
+    let world = world_of c.self.inside in
     run-ready world c.self.invariant
 
 pub recover-requires-clause-shape : goal.recover-requires-clause-shape
 recover-requires-clause-shape c =
-    let world : World = record {
-      shape = c.self.inside.shape;
-      nodes = c.self.inside.nodes;
-      clients = nobody c.self.inside.shape ∷ c.self.inside.clients.items;
-      master = record { task = task_of c.self.inside.task; won = c.self.inside.won; settled = c.self.inside.settled; recovered = c.self.inside.recovered };
-      stopped = c.self.inside.stopped;
-      trace = map moment_of c.self.inside.trace.items;
-      ledger = c.self.inside.ledger.ledger;
-      events = c.self.inside.events;
-    } in
+    let world = world_of c.self.inside in
     (recovery-stands world c.in-Recover.recovery c.self.invariant (ap task_of c.in-Recover.is)).same_shape
 
 pub recover-requires-clause-place : goal.recover-requires-clause-place
 recover-requires-clause-place c =
-    let world : World = record {
-      shape = c.self.inside.shape;
-      nodes = c.self.inside.nodes;
-      clients = nobody c.self.inside.shape ∷ c.self.inside.clients.items;
-      master = record { task = task_of c.self.inside.task; won = c.self.inside.won; settled = c.self.inside.settled; recovered = c.self.inside.recovered };
-      stopped = c.self.inside.stopped;
-      trace = map moment_of c.self.inside.trace.items;
-      ledger = c.self.inside.ledger.ledger;
-      events = c.self.inside.events;
-    } in
+    let world = world_of c.self.inside in
     recovery-place world c.in-Recover.recovery c.self.invariant (ap task_of c.in-Recover.is)
 
 pub invariant_of-self-in-Settle : goal.invariant_of-self-in-Settle
 invariant_of-self-in-Settle c =
-    let world : World = record {
-      shape = c.self.inside.shape;
-      nodes = c.self.inside.nodes;
-      clients = nobody c.self.inside.shape ∷ c.self.inside.clients.items;
-      master = record { task = task_of c.self.inside.task; won = c.self.inside.won; settled = c.self.inside.settled; recovered = c.self.inside.recovered };
-      stopped = c.self.inside.stopped;
-      trace = map moment_of c.self.inside.trace.items;
-      ledger = c.self.inside.ledger.ledger;
-      events = c.self.inside.events;
-    } in
+    let world = world_of c.self.inside in
     let allowed : refusal world event.Work ≡ None = ap (λ w. refusal w event.Work) c.self.view_is ∙ c.requires.allowed in
     let told = c.in_ok-taken-in-Settle.ensures in
     let same = settled-world world c.self.inside.clients.items c.in-Settle.settling c.settle.new.settling c.in_ok-taken-in-Settle.taken.told c.settle.new.nodes (task_of c.end_task.new.task) c.settle.new.ledger.ledger
@@ -128,16 +66,7 @@ invariant_of-self-in-Settle c =
 
 pub invariant_of-self-in-Recover : goal.invariant_of-self-in-Recover
 invariant_of-self-in-Recover c =
-    let world : World = record {
-      shape = c.self.inside.shape;
-      nodes = c.self.inside.nodes;
-      clients = nobody c.self.inside.shape ∷ c.self.inside.clients.items;
-      master = record { task = task_of c.self.inside.task; won = c.self.inside.won; settled = c.self.inside.settled; recovered = c.self.inside.recovered };
-      stopped = c.self.inside.stopped;
-      trace = map moment_of c.self.inside.trace.items;
-      ledger = c.self.inside.ledger.ledger;
-      events = c.self.inside.events;
-    } in
+    let world = world_of c.self.inside in
     let allowed : refusal world event.Work ≡ None = ap (λ w. refusal w event.Work) c.self.view_is ∙ c.requires.allowed in
     let task = ap task_of c.in-Recover.is in
     let known = recovered-client world c.in-Recover.recovery c.self.invariant task in
@@ -166,16 +95,7 @@ invariant_of-self-in-Recover c =
 
 pub invariant_of-self-in-Join : goal.invariant_of-self-in-Join
 invariant_of-self-in-Join c =
-    let world : World = record {
-      shape = c.self.inside.shape;
-      nodes = c.self.inside.nodes;
-      clients = nobody c.self.inside.shape ∷ c.self.inside.clients.items;
-      master = record { task = task_of c.self.inside.task; won = c.self.inside.won; settled = c.self.inside.settled; recovered = c.self.inside.recovered };
-      stopped = c.self.inside.stopped;
-      trace = map moment_of c.self.inside.trace.items;
-      ledger = c.self.inside.ledger.ledger;
-      events = c.self.inside.events;
-    } in
+    let world = world_of c.self.inside in
     let allowed : refusal world event.Work ≡ None = ap (λ w. refusal w event.Work) c.self.view_is ∙ c.requires.allowed in
     let answers = c.apply-answer.ensures.answer ∙ ap (λ verb. answer_to c.self.inside.nodes verb true) c.next-verb.ensures.verb in
     let same = joined-world world c.in-Join.join c.after-told.new.self c.after-told.result c.apply-answer.new.self (task_of c.end_task-in-Join.new.task) (ap task_of c.in-Join.is)
@@ -186,16 +106,7 @@ invariant_of-self-in-Join c =
 
 pub returns-in_ok-taken-in-Settle-clause-world : goal.returns-in_ok-taken-in-Settle-clause-world
 returns-in_ok-taken-in-Settle-clause-world c =
-    let world : World = record {
-      shape = c.self.inside.shape;
-      nodes = c.self.inside.nodes;
-      clients = nobody c.self.inside.shape ∷ c.self.inside.clients.items;
-      master = record { task = task_of c.self.inside.task; won = c.self.inside.won; settled = c.self.inside.settled; recovered = c.self.inside.recovered };
-      stopped = c.self.inside.stopped;
-      trace = map moment_of c.self.inside.trace.items;
-      ledger = c.self.inside.ledger.ledger;
-      events = c.self.inside.events;
-    } in
+    let world = world_of c.self.inside in
     let told = c.in_ok-taken-in-Settle.ensures in
     let same = settled-world world c.self.inside.clients.items c.in-Settle.settling c.settle.new.settling c.in_ok-taken-in-Settle.taken.told c.settle.new.nodes (task_of c.end_task.new.task) c.settle.new.ledger.ledger
     refl (ap task_of c.in-Settle.is) told.settling told.told told.nodes
@@ -207,16 +118,7 @@ returns-in_ok-taken-in-Settle-clause-world c =
 
 pub returns-in_ok-taken-in-Recover-clause-world : goal.returns-in_ok-taken-in-Recover-clause-world
 returns-in_ok-taken-in-Recover-clause-world c =
-    let world : World = record {
-      shape = c.self.inside.shape;
-      nodes = c.self.inside.nodes;
-      clients = nobody c.self.inside.shape ∷ c.self.inside.clients.items;
-      master = record { task = task_of c.self.inside.task; won = c.self.inside.won; settled = c.self.inside.settled; recovered = c.self.inside.recovered };
-      stopped = c.self.inside.stopped;
-      trace = map moment_of c.self.inside.trace.items;
-      ledger = c.self.inside.ledger.ledger;
-      events = c.self.inside.events;
-    } in
+    let world = world_of c.self.inside in
     let task = ap task_of c.in-Recover.is in
     let known = recovered-client world c.in-Recover.recovery c.self.invariant task in
     let told = c.in_ok-taken-in-Recover.ensures in
