@@ -4,8 +4,8 @@ ghost use Rattle.std.specs.Prelude.{◌≡◌, ◌+◌, ◌<◌, ◌≤◌, ◌^
 ghost use Rattle.machine_world.specs.Events.{happens};
 ghost use Rattle.machine_world.specs.Refusals.{refusal};
 ghost use Rattle.machine_world.specs.declared.events.Event.TheVariants as events;
-ghost use Rattle.outside.specs.Faults.{IsSteady};
 ghost use Rattle.map_model.specs.declared.calls.Call.TheVariants as made;
+ghost use Rattle.outside.specs.Faults.{IsSteady};
 ghost use Rattle.script_meaning.specs.Lines.{calls, followed_by, is_settling, makes, meaning, most_verbs, once, only_calls, settles, takes_up_to, works_on};
 ghost use Rattle.script_run.specs.Turns.{number_in};
 ghost use Rattle.script_run.specs.Written.{Writes};

@@ -17,9 +17,9 @@ use Rattle.map_model.specs.declared.entries.Entry.{Entry}
 use Rattle.sim_meaning.proofs.KeyLemmas.{map_after-other}
 use Rattle.sim_meaning.specs.Summary.{has_key, keys_in, values_after}
 use Rattle.sim_run.proofs.CountLemmas.{count-cons}
+use Rattle.sim_run.specs.Keys.{decided_by, is_put, leaves_value, values_left, with_decided}
 use Rattle.verb_history.specs.Points.{entered_of}
 use Rattle.verb_history.specs.declared.points.Placed.{Placed}
-use Rattle.sim_run.specs.Keys.{decided_by, is_put, leaves_value, values_left, with_decided}
 
 -- What is decided of a key.
 

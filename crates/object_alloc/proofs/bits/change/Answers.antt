@@ -1,4 +1,4 @@
-use Rattle.std.proofs.Common.{◌≡◌, ℕ, map, ap, ◌∙◌, rules, subst, sym, arith}
+use Rattle.std.proofs.Common.{map, ap, ◌∙◌, rules, arith}
 use Rattle.machine.specs.Places.{homes_of, pair_of}
 use Rattle.machine.proofs.ObjectNamesLemmas.{names_object-says}
 use Rattle.object_alloc.specs.Parts.{word_of}
