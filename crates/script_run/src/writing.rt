@@ -4,8 +4,9 @@ ghost use Rattle.script_text.specs.OutputText.{line_text, text_of};
 ghost use Rattle.script_run.specs.declared.writing.Unwritten.TheVariants.{NoMemory};
 ghost use Rattle.script_run.specs.Written.{Writes};
 
+use arrayvec::ArrayVec;
 use outside::{Sink, Took};
-use script_text::{OutLine, line_bytes};
+use script_text::{OutLine, line_bytes, put_short_line};
 use std::alloc::{AllocError, Global};
 
 /// Why a text was not written to its end.
@@ -31,6 +32,10 @@ pub fn write_line<K: Sink>(alloc: Global, line: &OutLine, sink: &mut K) -> Resul
     ensures later { K.faults sink.old ≤ K.faults sink.new }
     ensures steady { IsSteady K.cannot_fail K.faults sink.old sink.new }
 {
+    let mut short = ArrayVec::new();
+    if put_short_line(&mut short, line) {
+        return write_all(short.as_slice(), sink);
+    }
     let text = line_bytes(alloc, line)?;
     write_all(&text, sink)
 }

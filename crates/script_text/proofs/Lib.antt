@@ -13,4 +13,5 @@ pub mod ScriptReadLemmas
 pub mod ShapeFormLemmas
 pub mod ShapeLemmas
 pub mod SoundLemmas
+pub mod SpacedLemmas
 pub mod WordValueLemmas

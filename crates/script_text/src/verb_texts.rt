@@ -4,20 +4,16 @@
 ghost use Rattle.std.specs.Prelude.{◌≡◌, ◌+◌, ◌≤◌, ◌++◌, [], ◌∷◌, codes, false, length, true};
 ghost use Rattle.std.specs.Fmt.{decimal};
 ghost use Rattle.script_text.specs.OutputText.{is_verb, joined, line_text, line_words, spaced};
-ghost use Rattle.script_text.specs.Shown.{actor_text, answer_text, word_text};
+ghost use Rattle.script_text.specs.Shown.{actor_text, answer_text};
 ghost use Rattle.script_text.specs.declared.out_lines.OutLine.TheVariants.{VerbAdd, VerbRead, VerbSwap, VerbWrite};
 
 use crate::out_lines::OutLine;
-use crate::word_texts::word_digits;
+use crate::short_texts::{SHORT_LINE, put_number, put_text, put_word};
 use arrayvec::ArrayVec;
-use itoa::Buffer;
-
-/// Room for the line of any verb.
-pub const VERB_LINE: usize = 96;
 
 /// Puts the line of a verb with its line feed, and answers true; of any other line nothing, and false.
 #[inline(always)]
-pub fn put_verb_line(into: &mut ArrayVec<u8, VERB_LINE>, out: &OutLine) -> bool
+pub fn put_verb_line(into: &mut ArrayVec<u8, SHORT_LINE>, out: &OutLine) -> bool
     requires { into.old.items ≡ [] }
     ensures verb { result ≡ is_verb out.now }
     ensures line { result ≡ true → into.new.items ≡ line_text out.now }
@@ -59,7 +55,7 @@ pub fn put_verb_line(into: &mut ArrayVec<u8, VERB_LINE>, out: &OutLine) -> bool
 }
 
 pub(crate) fn put_read(
-    into: &mut ArrayVec<u8, VERB_LINE>,
+    into: &mut ArrayVec<u8, SHORT_LINE>,
     actor: Option<u32>,
     node: u32,
     at: u32,
@@ -74,7 +70,7 @@ pub(crate) fn put_read(
 }
 
 pub(crate) fn put_write(
-    into: &mut ArrayVec<u8, VERB_LINE>,
+    into: &mut ArrayVec<u8, SHORT_LINE>,
     actor: Option<u32>,
     node: u32,
     at: u32,
@@ -93,7 +89,7 @@ pub(crate) fn put_write(
 }
 
 pub(crate) fn put_swap(
-    into: &mut ArrayVec<u8, VERB_LINE>,
+    into: &mut ArrayVec<u8, SHORT_LINE>,
     actor: Option<u32>,
     node: u32,
     at: u32,
@@ -112,7 +108,7 @@ pub(crate) fn put_swap(
 }
 
 pub(crate) fn put_add(
-    into: &mut ArrayVec<u8, VERB_LINE>,
+    into: &mut ArrayVec<u8, SHORT_LINE>,
     actor: Option<u32>,
     node: u32,
     at: u32,
@@ -130,7 +126,13 @@ pub(crate) fn put_add(
 
 // Each of these appends words, with a blank before each but the first word of a line.
 
-fn put_verb(into: &mut ArrayVec<u8, VERB_LINE>, actor: Option<u32>, name: &[u8], node: u32, at: u32)
+fn put_verb(
+    into: &mut ArrayVec<u8, SHORT_LINE>,
+    actor: Option<u32>,
+    name: &[u8],
+    node: u32,
+    at: u32,
+)
     requires empty { into.old.items ≡ [] }
     requires short { length name.now ≤ 5 }
     ensures text { into.new.items ≡ joined (codes "v" ∷ actor_text actor ∷ name.now ∷ decimal node ∷ decimal at ∷ []) }
@@ -144,7 +146,7 @@ fn put_verb(into: &mut ArrayVec<u8, VERB_LINE>, actor: Option<u32>, name: &[u8],
     put_number(into, at);
 }
 
-fn put_actor(into: &mut ArrayVec<u8, VERB_LINE>, actor: Option<u32>)
+fn put_actor(into: &mut ArrayVec<u8, SHORT_LINE>, actor: Option<u32>)
     requires { length into.old.items ≤ 80 }
     ensures text { into.new.items ≡ into.old.items ++ spaced (actor_text actor ∷ []) }
     ensures few { length into.new.items ≤ length into.old.items + 11 }
@@ -155,7 +157,7 @@ fn put_actor(into: &mut ArrayVec<u8, VERB_LINE>, actor: Option<u32>)
     }
 }
 
-fn put_answer(into: &mut ArrayVec<u8, VERB_LINE>, answer: Option<u64>)
+fn put_answer(into: &mut ArrayVec<u8, SHORT_LINE>, answer: Option<u64>)
     requires { length into.old.items ≤ 76 }
     ensures text { into.new.items ≡ into.old.items ++ spaced (codes "=" ∷ answer_text answer ∷ []) }
     ensures few { length into.new.items ≤ length into.old.items + 19 }
@@ -167,37 +169,4 @@ fn put_answer(into: &mut ArrayVec<u8, VERB_LINE>, answer: Option<u64>)
             put_word(into, word);
         }
     }
-}
-
-fn put_number(into: &mut ArrayVec<u8, VERB_LINE>, number: u32)
-    requires { length into.old.items ≤ 85 }
-    ensures text { into.new.items ≡ into.old.items ++ spaced (decimal number ∷ []) }
-    ensures few { length into.new.items ≤ length into.old.items + 11 }
-{
-    into.push(b' ');
-    if number < 10 {
-        // Most numbers of clients and of nodes have one digit.
-        into.push(b'0' + number as u8);
-        return;
-    }
-    let mut buffer = Buffer::new();
-    put_text(into, buffer.format(number).as_bytes());
-}
-
-fn put_word(into: &mut ArrayVec<u8, VERB_LINE>, word: u64)
-    requires { length into.old.items ≤ 79 }
-    ensures text { into.new.items ≡ into.old.items ++ spaced (word_text word ∷ []) }
-    ensures long { length into.new.items ≡ length into.old.items + 17 }
-{
-    into.push(b' ');
-    put_text(into, word_digits(word).as_slice());
-}
-
-fn put_text(into: &mut ArrayVec<u8, VERB_LINE>, text: &[u8])
-    requires { length into.old.items + length text.now ≤ 96 }
-    ensures text { into.new.items ≡ into.old.items ++ text.now }
-    ensures long { length into.new.items ≡ length into.old.items + length text.now }
-{
-    let put = into.try_extend_from_slice(text);
-    prove!(put.is_ok());
 }

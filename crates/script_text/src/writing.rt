@@ -11,7 +11,8 @@ ghost use Rattle.script_text.specs.Shown.{actor_text, are_visible, bytes_text, h
 use crate::byte_text::Text;
 use crate::out_lines::{NotYetText, OutLine, RefusalText, ReplyText};
 use crate::scripts::CallText;
-use crate::verb_texts::{VERB_LINE, put_add, put_read, put_swap, put_write};
+use crate::short_texts::SHORT_LINE;
+use crate::verb_texts::{put_add, put_read, put_swap, put_write};
 use crate::word_texts::{hex_digit, word_digits};
 use arrayvec::ArrayVec;
 use itoa::Buffer;
@@ -261,7 +262,7 @@ fn push_refusal(into: &mut Vec<u8>, why: &RefusalText) -> Result<(), AllocError>
 }
 
 // Appends the words of a verb, which stand in a place of their own.
-fn push_words(into: &mut Vec<u8>, words: &ArrayVec<u8, VERB_LINE>) -> Result<(), AllocError>
+fn push_words(into: &mut Vec<u8>, words: &ArrayVec<u8, SHORT_LINE>) -> Result<(), AllocError>
     ensures { OnOk result (into.new.items ≡ into.old.items ++ words.now.items) }
 {
     into.extend_from_slice(words.as_slice())
@@ -340,7 +341,7 @@ fn push_bytes(into: &mut Vec<u8>, bytes: &Text) -> Result<(), AllocError>
     }
 }
 
-fn is_shown_as_is(bytes: &[u8]) -> bool
+pub(crate) fn is_shown_as_is(bytes: &[u8]) -> bool
     ensures { result ≡ is_shown_as_is bytes.now }
 {
     if bytes.is_empty() || bytes.starts_with(b"x:") {

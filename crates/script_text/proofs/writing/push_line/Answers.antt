@@ -1,12 +1,9 @@
-use Rattle.std.proofs.Common.{◌≡◌, ℕ, List, [], ◌∷◌, ◌++◌, Result, OnOk, codes, refl, ap, sym, ◌∙◌, append_assoc}
+use Rattle.std.proofs.Common.{◌≡◌, ℕ, List, [], ◌∷◌, ◌++◌, Result, OnOk, codes, refl, append_assoc}
 use Rattle.std.proofs.lemmas.Result.{on_ok_weaker}
 use Rattle.std.specs.Fmt.{decimal}
 use Rattle.script_text.specs.OutputText.{joined, line_words, spaced}
+use Rattle.script_text.proofs.SpacedLemmas.{spaced-append}
 use Rattle.script_text.proofs.writing.push_line.Goals as goal
-
-spaced-append : (xs ys : List (List ℕ)) → spaced (xs ++ ys) ≡ spaced xs ++ spaced ys
-spaced-append [] ys = refl
-spaced-append (x ∷ xs) ys = ap (λ s. (codes " " ++ x) ++ s) (spaced-append xs ys) ∙ sym (append_assoc (codes " " ++ x) (spaced xs) (spaced ys))
 
 -- a first word, and then two pieces of words
 then_pieces : {T E : Type 0} (r : Result T E) (old first last new name text : List ℕ) (xs ys : List (List ℕ)) → first ≡ old ++ name → last ≡ first ++ spaced xs → OnOk r (new ≡ last ++ spaced ys)

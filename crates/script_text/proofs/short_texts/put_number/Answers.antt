@@ -1,6 +1,6 @@
 use Rattle.std.proofs.Common.{append_assoc, refl, arith}
 use Rattle.std.proofs.lemmas.Fmt.{decimal_digit}
-use Rattle.script_text.proofs.verb_texts.put_number.Goals as goal
+use Rattle.script_text.proofs.short_texts.put_number.Goals as goal
 
 pub returns-then-number-lt10-clause-text : goal.returns-then-number-lt10-clause-text
 returns-then-number-lt10-clause-text c =
