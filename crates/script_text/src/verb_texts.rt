@@ -54,7 +54,7 @@ pub fn put_verb_line(into: &mut ArrayVec<u8, SHORT_LINE>, out: &OutLine) -> bool
     true
 }
 
-pub(crate) fn put_read(
+fn put_read(
     into: &mut ArrayVec<u8, SHORT_LINE>,
     actor: Option<u32>,
     node: u32,
@@ -69,7 +69,7 @@ pub(crate) fn put_read(
     put_answer(into, answer);
 }
 
-pub(crate) fn put_write(
+fn put_write(
     into: &mut ArrayVec<u8, SHORT_LINE>,
     actor: Option<u32>,
     node: u32,
@@ -88,7 +88,7 @@ pub(crate) fn put_write(
     }
 }
 
-pub(crate) fn put_swap(
+fn put_swap(
     into: &mut ArrayVec<u8, SHORT_LINE>,
     actor: Option<u32>,
     node: u32,
@@ -107,7 +107,7 @@ pub(crate) fn put_swap(
     put_answer(into, answer);
 }
 
-pub(crate) fn put_add(
+fn put_add(
     into: &mut ArrayVec<u8, SHORT_LINE>,
     actor: Option<u32>,
     node: u32,

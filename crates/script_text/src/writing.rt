@@ -1,18 +1,18 @@
 //! Output lines as text.
 
-ghost use Rattle.std.specs.Prelude.{◌≡◌, ℕ, ◌++◌, List, [], ◌∷◌, IfOk, OnErr, OnOk, flat_map, map};
+ghost use Rattle.std.specs.Prelude.{◌≡◌, ℕ, ◌++◌, List, [], ◌∷◌, IfOk, OnErr, OnOk, false, flat_map, map};
 ghost use Rattle.std.specs.Char.{is_ascii_graphic};
 ghost use Rattle.std.specs.Fmt.{decimal};
 ghost use Rattle.std.specs.List.{list_all};
 ghost use Rattle.script_text.specs.OutputPart.{call_parts, not_yet_parts, part_text, refusal_parts, reply_parts};
-ghost use Rattle.script_text.specs.OutputText.{joined, line_text, line_words, spaced};
+ghost use Rattle.script_text.specs.OutputText.{is_verb, joined, line_text, line_words, spaced};
 ghost use Rattle.script_text.specs.Shown.{actor_text, are_visible, bytes_text, hex_text, is_shown_as_is, word_text};
+ghost use Rattle.script_text.specs.declared.out_lines.OutLine.TheVariants.{Blocks, Called, Ended, Entry, NotYet, Objects, Refused, Took, Word};
 
 use crate::byte_text::Text;
 use crate::out_lines::{NotYetText, OutLine, RefusalText, ReplyText};
 use crate::scripts::CallText;
-use crate::short_texts::SHORT_LINE;
-use crate::verb_texts::{put_add, put_read, put_swap, put_write};
+use crate::verb_texts::put_verb_line;
 use crate::word_texts::{hex_digit, word_digits};
 use arrayvec::ArrayVec;
 use itoa::Buffer;
@@ -34,6 +34,10 @@ pub fn line_text(alloc: Global, out: &OutLine, into: &mut Vec<u8>) -> Result<(),
 pub fn line_bytes(alloc: Global, out: &OutLine) -> Result<Vec<u8>, AllocError>
     ensures { IfOk result (λ line. line.items ≡ line_text out.now) }
 {
+    let mut verb = ArrayVec::new();
+    if put_verb_line(&mut verb, out) {
+        return verb.as_slice().to_vec(alloc);
+    }
     let mut line = Vec::with_capacity(alloc, LINE)?;
     push_line(&mut line, out)?;
     line.push(b'\n')?;
@@ -43,6 +47,7 @@ pub fn line_bytes(alloc: Global, out: &OutLine) -> Result<Vec<u8>, AllocError>
 // Each of these appends words, with a blank before each but the first word of a line.
 
 fn push_line(into: &mut Vec<u8>, out: &OutLine) -> Result<(), AllocError>
+    requires { is_verb out.now ≡ false }
     ensures { OnOk result (into.new.items ≡ into.old.items ++ joined (line_words out.now)) }
 {
     match out {
@@ -51,106 +56,38 @@ fn push_line(into: &mut Vec<u8>, out: &OutLine) -> Result<(), AllocError>
             client,
             number,
             call,
-        } => {
-            push_counted(into, b"called", *client, *number)?;
-            push_call(into, call)
-        }
+        } => push_called(into, *client, *number, call),
         OutLine::Ended {
             client,
             number,
             reply,
-        } => {
-            push_counted(into, b"ended", *client, *number)?;
-            push_reply(into, reply)
-        }
-        OutLine::NotYet { actor, why } => {
-            into.extend_from_slice(b"notyet")?;
-            push_actor(into, *actor)?;
-            push_not_yet(into, why)
-        }
-        OutLine::Took { actor, verbs } => {
-            into.extend_from_slice(b"took")?;
-            push_actor(into, *actor)?;
-            push_number(into, *verbs)
-        }
+        } => push_ended(into, *client, *number, reply),
+        OutLine::NotYet { actor, why } => push_waiting(into, *actor, why),
+        OutLine::Took { actor, verbs } => push_took(into, *actor, *verbs),
         OutLine::Stopped(client) => push_named(into, b"stopped", *client),
         OutLine::Lost(node) => push_named(into, b"lost", *node),
         OutLine::TaskSettle => into.extend_from_slice(b"task settle"),
         OutLine::TaskRecover(client) => push_named(into, b"task recover", *client),
+        OutLine::TaskJoin(node) => push_named(into, b"task join", *node),
         OutLine::Recovered(client) => push_named(into, b"recovered", *client),
-        OutLine::Opened(epoch) => {
-            into.extend_from_slice(b"opened")?;
-            push_word(into, *epoch)
-        }
-        OutLine::Waiting { client, begin } => { push_marked(into, b"waiting", *client, *begin) }
-        OutLine::VerbRead {
-            actor,
-            node,
-            at,
-            answer,
-        } => {
-            let mut words = ArrayVec::new();
-            put_read(&mut words, *actor, *node, *at, *answer);
-            push_words(into, &words)
-        }
-        OutLine::VerbWrite {
-            actor,
-            node,
-            at,
-            word,
-            lost,
-        } => {
-            let mut words = ArrayVec::new();
-            put_write(&mut words, *actor, *node, *at, *word, *lost);
-            push_words(into, &words)
-        }
-        OutLine::VerbSwap {
-            actor,
-            node,
-            at,
-            expect,
-            fresh,
-            answer,
-        } => {
-            let mut words = ArrayVec::new();
-            put_swap(&mut words, *actor, *node, *at, *expect, *fresh, *answer);
-            push_words(into, &words)
-        }
-        OutLine::VerbAdd {
-            actor,
-            node,
-            at,
-            amount,
-            answer,
-        } => {
-            let mut words = ArrayVec::new();
-            put_add(&mut words, *actor, *node, *at, *amount, *answer);
-            push_words(into, &words)
-        }
-        OutLine::Word { node, at, word } => {
-            push_counted(into, b"w", *node, *at)?;
-            push_word(into, *word)
-        }
+        OutLine::Opened(epoch) => push_worded(into, b"opened", *epoch),
+        OutLine::Waiting { client, begin } => push_marked(into, b"waiting", *client, *begin),
+        OutLine::Refused(why) => push_refused(into, why),
+        OutLine::Filled(node) => push_named(into, b"filled", *node),
+        OutLine::Joined(node) => push_named(into, b"joined", *node),
+        OutLine::Word { node, at, word } => push_stored(into, *node, *at, *word),
         OutLine::Dumped(words) => push_named(into, b"dumped", *words),
         OutLine::Blocks {
             unused,
             owned,
             awaiting,
             released,
-        } => {
-            into.extend_from_slice(b"blocks")?;
-            push_sizes(into, b"unused", *unused, b"owned", *owned)?;
-            push_sizes(into, b"awaiting", *awaiting, b"released", *released)
-        }
+        } => push_blocks(into, *unused, *owned, *awaiting, *released),
         OutLine::Objects {
             stock,
             present,
             held,
-        } => {
-            into.extend_from_slice(b"objects")?;
-            push_sizes(into, b"stock", *stock, b"present", *present)?;
-            push_named(into, b" held", *held)
-        }
+        } => push_objects(into, *stock, *present, *held),
         OutLine::History(entries) => push_named(into, b"history", *entries),
         OutLine::Entry {
             client,
@@ -158,24 +95,106 @@ fn push_line(into: &mut Vec<u8>, out: &OutLine) -> Result<(), AllocError>
             call,
             reply,
             unreturned,
-        } => {
-            push_counted(into, b"h", *client, *number)?;
-            push_call(into, call)?;
-            push_reply(into, reply)?;
-            if *unreturned {
-                into.extend_from_slice(b" open")?;
-            }
-            Ok(())
-        }
-        OutLine::Refused(why) => {
-            into.extend_from_slice(b"refused")?;
-            push_refusal(into, why)
-        }
+        } => push_entry(into, *client, *number, call, reply, *unreturned),
         OutLine::End => into.extend_from_slice(b"end"),
-        OutLine::Filled(node) => push_named(into, b"filled", *node),
-        OutLine::Joined(node) => push_named(into, b"joined", *node),
-        OutLine::TaskJoin(node) => push_named(into, b"task join", *node),
+        _ => unreachable!(),
     }
+}
+
+fn push_called(
+    into: &mut Vec<u8>,
+    client: u32,
+    number: u32,
+    call: &CallText,
+) -> Result<(), AllocError>
+    ensures { OnOk result (into.new.items ≡ into.old.items ++ joined (line_words (Called client number call.now))) }
+{
+    push_counted(into, b"called", client, number)?;
+    push_call(into, call)
+}
+
+fn push_ended(
+    into: &mut Vec<u8>,
+    client: u32,
+    number: u32,
+    reply: &ReplyText,
+) -> Result<(), AllocError>
+    ensures { OnOk result (into.new.items ≡ into.old.items ++ joined (line_words (Ended client number reply.now))) }
+{
+    push_counted(into, b"ended", client, number)?;
+    push_reply(into, reply)
+}
+
+fn push_waiting(into: &mut Vec<u8>, actor: Option<u32>, why: &NotYetText) -> Result<(), AllocError>
+    ensures { OnOk result (into.new.items ≡ into.old.items ++ joined (line_words (NotYet actor why.now))) }
+{
+    into.extend_from_slice(b"notyet")?;
+    push_actor(into, actor)?;
+    push_not_yet(into, why)
+}
+
+fn push_took(into: &mut Vec<u8>, actor: Option<u32>, verbs: u32) -> Result<(), AllocError>
+    ensures { OnOk result (into.new.items ≡ into.old.items ++ joined (line_words (Took actor verbs))) }
+{
+    into.extend_from_slice(b"took")?;
+    push_actor(into, actor)?;
+    push_number(into, verbs)
+}
+
+fn push_refused(into: &mut Vec<u8>, why: &RefusalText) -> Result<(), AllocError>
+    ensures { OnOk result (into.new.items ≡ into.old.items ++ joined (line_words (Refused why.now))) }
+{
+    into.extend_from_slice(b"refused")?;
+    push_refusal(into, why)
+}
+
+fn push_stored(into: &mut Vec<u8>, node: u32, at: u32, word: u64) -> Result<(), AllocError>
+    ensures { OnOk result (into.new.items ≡ into.old.items ++ joined (line_words (Word node at word))) }
+{
+    push_counted(into, b"w", node, at)?;
+    push_word(into, word)
+}
+
+fn push_blocks(
+    into: &mut Vec<u8>,
+    unused: u32,
+    owned: u32,
+    awaiting: u32,
+    released: u32,
+) -> Result<(), AllocError>
+    ensures { OnOk result (into.new.items ≡ into.old.items ++ joined (line_words (Blocks unused owned awaiting released))) }
+{
+    into.extend_from_slice(b"blocks")?;
+    push_sizes(into, b"unused", unused, b"owned", owned)?;
+    push_sizes(into, b"awaiting", awaiting, b"released", released)
+}
+
+fn push_objects(into: &mut Vec<u8>, stock: u32, present: u32, held: u32) -> Result<(), AllocError>
+    ensures { OnOk result (into.new.items ≡ into.old.items ++ joined (line_words (Objects stock present held))) }
+{
+    into.extend_from_slice(b"objects")?;
+    push_sizes(into, b"stock", stock, b"present", present)?;
+    push_named(into, b" held", held)
+}
+
+fn push_entry(
+    into: &mut Vec<u8>,
+    client: u32,
+    number: u32,
+    call: &CallText,
+    reply: &ReplyText,
+    unreturned: bool,
+) -> Result<(), AllocError>
+    ensures { OnOk result (into.new.items ≡ into.old.items
+        ++ joined (line_words (Entry client number call.now reply.now unreturned))) }
+{
+    push_counted(into, b"h", client, number)?;
+    push_call(into, call)?;
+    push_reply(into, reply)?;
+    if unreturned {
+        into.extend_from_slice(b" open")?;
+    }
+    Ok(())
 }
 
 fn push_call(into: &mut Vec<u8>, call: &CallText) -> Result<(), AllocError>
@@ -224,10 +243,7 @@ fn push_not_yet(into: &mut Vec<u8>, why: &NotYetText) -> Result<(), AllocError>
     ensures { OnOk result (into.new.items ≡ into.old.items ++ spaced (map part_text (not_yet_parts why.now))) }
 {
     match why {
-        NotYetText::Sealed(epoch) => {
-            into.extend_from_slice(b" Sealed")?;
-            push_word(into, *epoch)
-        }
+        NotYetText::Sealed(epoch) => push_worded(into, b" Sealed", *epoch),
         NotYetText::Lost(node) => push_named(into, b" Lost", *node),
         NotYetText::Unchanged { slot, word } => { push_marked(into, b" Unchanged", *slot, *word) }
     }
@@ -253,19 +269,9 @@ fn push_refusal(into: &mut Vec<u8>, why: &RefusalText) -> Result<(), AllocError>
         RefusalText::LastLive(region) => push_named(into, b" lastlive", *region),
         RefusalText::Task => into.extend_from_slice(b" task"),
         RefusalText::Masked(node) => push_named(into, b" masked", *node),
-        RefusalText::Sealed(epoch) => {
-            into.extend_from_slice(b" sealed")?;
-            push_word(into, *epoch)
-        }
+        RefusalText::Sealed(epoch) => push_worded(into, b" sealed", *epoch),
         RefusalText::Other => Ok(()),
     }
-}
-
-// Appends the words of a verb, which stand in a place of their own.
-fn push_words(into: &mut Vec<u8>, words: &ArrayVec<u8, SHORT_LINE>) -> Result<(), AllocError>
-    ensures { OnOk result (into.new.items ≡ into.old.items ++ words.now.items) }
-{
-    into.extend_from_slice(words.as_slice())
 }
 
 fn push_actor(into: &mut Vec<u8>, actor: Option<u32>) -> Result<(), AllocError>
@@ -290,6 +296,14 @@ fn push_marked(into: &mut Vec<u8>, text: &[u8], number: u32, word: u64) -> Resul
     ensures { OnOk result (into.new.items ≡ into.old.items ++ (text.now ++ spaced (decimal number ∷ word_text word ∷ []))) }
 {
     push_named(into, text, number)?;
+    push_word(into, word)
+}
+
+// Appends this text, and a word.
+fn push_worded(into: &mut Vec<u8>, text: &[u8], word: u64) -> Result<(), AllocError>
+    ensures { OnOk result (into.new.items ≡ into.old.items ++ (text.now ++ spaced (word_text word ∷ []))) }
+{
+    into.extend_from_slice(text)?;
     push_word(into, word)
 }
 
