@@ -12,11 +12,11 @@ pub fn first_words(alloc: Global, shape: &Shape) -> Result<Vec<Vec<u64>>, AllocE
     ensures { IfOk result (λ lists. map (λ list. list.items) lists.items
         ≡ first_words_of shape.now) }
 {
-    let mut lists = Vec::new(alloc);
+    let region = region_words(alloc, shape)?;
+    let mut lists = Vec::with_capacity(alloc, 1 + shape.nodes as usize)?;
     lists.push(control_words(alloc, shape)?)?;
-    let node = node_words(alloc, shape)?;
     for _ in 0..shape.nodes {
-        lists.push(Vec::from_slice(alloc, &node)?)?;
+        lists.push(node_words(alloc, shape, &region)?)?;
     }
     Ok(lists)
 }
@@ -24,19 +24,24 @@ pub fn first_words(alloc: Global, shape: &Shape) -> Result<Vec<Vec<u64>>, AllocE
 fn control_words(alloc: Global, shape: &Shape) -> Result<Vec<u64>, AllocError>
     ensures { IfOk result (λ words. words.items ≡ first_control shape.now) }
 {
-    let mut words = Vec::new(alloc);
+    let mut words = Vec::with_capacity(alloc, 1040)?;
     words.push(65_536 + ((1 << shape.nodes) - 1))?;
     words.resize(1040, 0)?;
     Ok(words)
 }
 
-fn node_words(alloc: Global, shape: &Shape) -> Result<Vec<u64>, AllocError>
+// The words of a memory node whose regions each open with these. The list never grows: a growing one
+// is copied over and over.
+fn node_words(alloc: Global, shape: &Shape, region: &[u64]) -> Result<Vec<u64>, AllocError>
+    requires { region.now ≡ first_region shape.now }
     ensures { IfOk result (λ words. words.items ≡ first_node shape.now) }
 {
-    let region = region_words(alloc, shape)?;
-    let mut words = vec![in alloc; 0; 48 * shape.groups as usize]?;
+    let slots = 48 * shape.groups as usize;
+    let regions = shape.regions as usize * (128 + 512 * shape.blocks as usize);
+    let mut words = Vec::with_capacity(alloc, slots + regions)?;
+    words.resize(slots, 0)?;
     for _ in 0..shape.regions {
-        words.extend_from_slice(&region)?;
+        words.extend_from_slice(region)?;
     }
     Ok(words)
 }
@@ -45,7 +50,7 @@ fn region_words(alloc: Global, shape: &Shape) -> Result<Vec<u64>, AllocError>
     ensures { IfOk result (λ words. words.items ≡ first_region shape.now) }
 {
     let blocks = shape.blocks as usize;
-    let mut words = Vec::new(alloc);
+    let mut words = Vec::with_capacity(alloc, 128 + 512 * blocks)?;
     words.resize(64, 0)?;
     words.resize(64 + blocks, u64::MAX)?;
     words.resize(128 + 512 * blocks, 0)?;

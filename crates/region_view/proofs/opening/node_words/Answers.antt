@@ -10,7 +10,7 @@ loop-preserved c =
     let front = replicate (48 * sizes.groups) 0 in
     let region = first_region sizes in
     c.in_ok-extend_from_slice.ensures.items
-    ∙ ap (λ l. c.loop.words.items ++ l) (c.deref.ensures.value ∙ c.in_ok-region.ensures)
+    ∙ ap (λ l. c.loop.words.items ++ l) c.requires
     ∙ ap (λ l. l ++ region) c.loop.invariant
     ∙ append_assoc front (copies n region) region
     ∙ ap (λ l. front ++ l) (sym (copies-more n region))
