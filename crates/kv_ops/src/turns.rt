@@ -129,10 +129,10 @@ impl Caller {
         ensures { turn_of self.new result ≡ turn (client_of self.old) answer }
     {
         match &self.stage {
-            Stage::Seek(_) => self.after_search(answer),
+            Stage::Seek(_) => self.after_search_apart(answer),
             Stage::Fetch => self.after_fetch(answer),
-            Stage::Find(_) => self.after_search(answer),
-            Stage::ReadVersion(_) => self.after_search(answer),
+            Stage::Find(_) => self.after_search_apart(answer),
+            Stage::ReadVersion(_) => self.after_search_apart(answer),
             Stage::Choose => self.after_object(answer),
             Stage::Clear(_) => self.after_object(answer),
             Stage::Body => self.after_body(answer),
@@ -151,6 +151,17 @@ impl Caller {
             Stage::LostNode { .. } => self.after_control(answer),
             Stage::End => self.after_control(answer),
         }
+    }
+
+    // Apart from the path of the other verbs: a search's answers are handed to `after_search` itself,
+    // and with the search in it three times `after` would be too large to be inlined.
+    #[inline(never)]
+    fn after_search_apart(&mut self, answer: Answer) -> Step
+        requires held { IsHeld (client_of self.old) }
+        requires search { IsSearch (client_of self.old).stage }
+        ensures { turn_of self.new result ≡ turn (client_of self.old) answer }
+    {
+        self.after_search(answer)
     }
 
     #[inline(always)]
