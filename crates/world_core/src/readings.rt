@@ -183,12 +183,6 @@ impl World {
     pub fn division(&self) -> Division
         ensures { result ≡ division_of self.now }
     {
-        division(
-            &self.nodes,
-            &self.shape,
-            &self.stopped,
-            &self.recovered,
-            &self.ledger,
-        )
+        division(&self.nodes, &self.shape, &self.stopped, &self.recovered)
     }
 }

@@ -64,7 +64,7 @@ impl World {
         Ok(World {
             shape,
             nodes: Nodes::of_words(first_words(alloc, &shape)?),
-            clients: Vec::new(alloc),
+            clients: Vec::with_capacity(alloc, shape.clients as usize)?,
             task: Working::Rest,
             won: Clients::new(),
             settled: Clients::new(),

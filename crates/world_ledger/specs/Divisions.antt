@@ -1,14 +1,13 @@
 -- Blocks and objects, counted one after the other by their states.
-use Rattle.std.specs.Prelude.{ℕ, ◌+◌, ◌/◌, ◌%◌, ◌≤◌, List, [], ◌∷◌}
+use Rattle.std.specs.Prelude.{ℕ, ◌+◌, ◌/◌, ◌%◌, ◌≤◌, Bool, if◌then◌else◌, List, [], ◌∷◌}
 use Rattle.machine.specs.ObjectNames.{Object, pointer_to}
-use Rattle.machine_world.specs.Readings.{block_state, state_of_object}
+use Rattle.machine_world.specs.Readings.{block_state, is_in_stock}
 use Rattle.machine_world.specs.World.{World}
 use Rattle.machine_world.specs.declared.parts.BlockState.{BlockState}
 use Rattle.machine_world.specs.declared.parts.BlockState.TheVariants as of_block
 use Rattle.machine_world.specs.declared.parts.Division.{Division}
-use Rattle.machine_world.specs.declared.parts.ObjectState.{ObjectState}
-use Rattle.machine_world.specs.declared.parts.ObjectState.TheVariants as of_object
 use Rattle.region_view.specs.Sizes.{Sizes}
+use Rattle.world_ledger.specs.NamedUnits.{is_named}
 
 abbrev pub no_division : Division
 no_division = record { unused = 0; owned = 0; awaiting = 0; released = 0; stock = 0; present = 0; held = 0 }
@@ -20,19 +19,20 @@ with_block (of_block.Owned client) division = record division { owned = division
 with_block (of_block.Awaiting client) division = record division { awaiting = division.awaiting + 1 }
 with_block of_block.Released division = record division { released = division.released + 1 }
 
--- one object more
-abbrev pub with_object : ObjectState → Division → Division
-with_object of_object.Stock division = record division { stock = division.stock + 1 }
-with_object (of_object.Present slot) division = record division { present = division.present + 1 }
-with_object (of_object.Held client) division = record division { held = division.held + 1 }
+-- one object more: one in stock, one that a slot names, or one that is held
+abbrev pub with_object : Bool → Bool → Division → Division
+with_object in_stock named division =
+    if in_stock then record division { stock = division.stock + 1 }
+    else (if named then record division { present = division.present + 1 } else record division { held = division.held + 1 })
 
 abbrev pub with_blocks : World → List (ℕ × ℕ) → Division → Division
 with_blocks world [] division = division
 with_blocks world (block ∷ blocks) division = with_blocks world blocks (with_block (block_state world block.0 block.1) division)
 
-abbrev pub with_objects : World → List Object → Division → Division
-with_objects world [] division = division
-with_objects world (object ∷ objects) division = with_objects world objects (with_object (state_of_object world object) division)
+abbrev pub with_objects : Sizes → List (List ℕ) → List Object → Division → Division
+with_objects sizes nodes [] division = division
+with_objects sizes nodes (object ∷ objects) division =
+    with_objects sizes nodes objects (with_object (is_in_stock sizes nodes object) (is_named sizes nodes object.pointer) division)
 
 -- the block at a position among those of all data regions
 abbrev pub block_at : Sizes → ℕ → ℕ × ℕ

@@ -1,36 +1,33 @@
-ghost use Rattle.std.specs.Prelude.{◌≡◌, ◌/◌, ◌^◌, ◌<◌, ◌≤◌, [], map, length};
+ghost use Rattle.std.specs.Prelude.{◌≡◌, ◌+◌, ◌*◌, ◌/◌, ◌^◌, ◌<◌, ◌≤◌, [], map, length};
 ghost use Rattle.machine_world.specs.Readings.{blocks_of, division_of, granted_objects, objects_in, objects_of_class};
 ghost use Rattle.machine_world.specs.Standing.{node_sizes};
-ghost use Rattle.machine_world.specs.World.{first_ledger};
+ghost use Rattle.machine_world.specs.World.{Ledger, first_ledger};
 ghost use Rattle.object_form.specs.Class.{units_of};
 ghost use Rattle.object_form.specs.declared.classes.TheConstants.{CLASSES};
+ghost use Rattle.pointer_fields.specs.Pointer.{region_of, unit_of};
 ghost use Rattle.world_ledger.specs.Divisions.{IsAtMost, no_division, object_at, with_block, with_blocks, with_object, with_objects};
-ghost use Rattle.world_ledger.specs.Seen.{IsUnit, world_seen};
+ghost use Rattle.world_ledger.specs.NamedUnits.{AreNamed};
+ghost use Rattle.world_ledger.specs.Seen.{IsUnit, words_seen, world_seen};
 
 use crate::clients::Clients;
-use crate::ledgers::Ledger;
-use crate::states::{block_state, class_in_force, state_of_object};
+use crate::named_units::{MOST_BLOCKS, has_unit, named_units};
+use crate::readings::word_of_region;
+use crate::states::{block_state, class_in_force};
 use key_test::Object;
-use machine_world::parts::{BlockState, Division, ObjectState};
+use machine_world::parts::{BlockState, Division};
 use object_form::{pointer_of, units};
 use region_view::Shape;
 use verb_words::Nodes;
 
 /// How many blocks, and how many objects of granted blocks, are in each state.
 #[tactic(auto, unfolding(machine_world::specs::Readings::division_of))]
-pub fn division(
-    nodes: &Nodes,
-    shape: &Shape,
-    stopped: &Clients,
-    recovered: &Clients,
-    ledger: &Ledger,
-) -> Division
+pub fn division(nodes: &Nodes, shape: &Shape, stopped: &Clients, recovered: &Clients) -> Division
     requires { map length nodes.now ≡ node_sizes shape.now }
-    ensures { result ≡ division_of
-        (world_seen shape.now nodes.now stopped.now recovered.now ledger.now.ledger) }
+    ensures { (ledger : Ledger) → result ≡ division_of
+        (world_seen shape.now nodes.now stopped.now recovered.now ledger) }
 {
     let mut division = blocks_counted(nodes, shape, stopped, recovered);
-    count_all_objects(&mut division, nodes, shape, ledger);
+    count_all_objects(&mut division, nodes, shape);
     division
 }
 
@@ -77,28 +74,30 @@ fn count_block(division: &mut Division, state: BlockState)
     }
 }
 
-fn count_object(division: &mut Division, state: ObjectState)
+fn count_object(division: &mut Division, is_in_stock: bool, is_named: bool)
     requires { IsAtMost (2 ^ 20) division.old }
-    ensures { division.new ≡ with_object state division.old }
+    ensures { division.new ≡ with_object is_in_stock is_named division.old }
 {
-    match state {
-        ObjectState::Stock => division.stock += 1,
-        ObjectState::Present(_) => division.present += 1,
-        ObjectState::Held(_) => division.held += 1,
+    if is_in_stock {
+        division.stock += 1;
+    } else if is_named {
+        division.present += 1;
+    } else {
+        division.held += 1;
     }
 }
 
-fn count_all_objects(division: &mut Division, nodes: &Nodes, shape: &Shape, ledger: &Ledger)
+fn count_all_objects(division: &mut Division, nodes: &Nodes, shape: &Shape)
     requires whole { map length nodes.now ≡ node_sizes shape.now }
     requires few { IsAtMost 4032 division.old }
-    ensures { division.new ≡ with_objects
-        (world_seen shape.now nodes.now [] [] ledger.now.ledger)
-        (granted_objects (world_seen shape.now nodes.now [] [] ledger.now.ledger)) division.old }
+    ensures { division.new ≡ with_objects shape.now nodes.now
+        (granted_objects (words_seen shape.now nodes.now)) division.old }
 {
+    let named = named_units(nodes, shape);
     for position in 0..shape.regions * shape.blocks {
         let region = 1 + position / shape.blocks;
         let block = position % shape.blocks;
-        count_objects(division, nodes, shape, ledger, region, block);
+        count_objects(division, nodes, shape, &named, region, block);
     }
 }
 
@@ -107,22 +106,21 @@ fn count_objects(
     division: &mut Division,
     nodes: &Nodes,
     shape: &Shape,
-    ledger: &Ledger,
+    named: &[u64; MOST_BLOCKS],
     region: u32,
     block: u32,
 )
     requires whole { map length nodes.now ≡ node_sizes shape.now }
+    requires named { AreNamed shape.now nodes.now named.now }
     requires least { 1 ≤ region }
     requires most { region ≤ shape.now.regions }
     requires block { block < shape.now.blocks }
     requires few { IsAtMost (2 ^ 19) division.old }
-    ensures { division.new ≡ with_objects
-        (world_seen shape.now nodes.now [] [] ledger.now.ledger)
-        (objects_in (world_seen shape.now nodes.now [] [] ledger.now.ledger) (region, block))
-        division.old }
+    ensures { division.new ≡ with_objects shape.now nodes.now
+        (objects_in (words_seen shape.now nodes.now) (region, block)) division.old }
 {
     if let Some(class) = class_in_force(nodes, shape, region, block) {
-        count_objects_of(division, nodes, shape, ledger, region, block, class);
+        count_objects_of(division, nodes, shape, named, region, block, class);
     }
 }
 
@@ -130,24 +128,28 @@ fn count_objects_of(
     division: &mut Division,
     nodes: &Nodes,
     shape: &Shape,
-    ledger: &Ledger,
+    named: &[u64; MOST_BLOCKS],
     region: u32,
     block: u32,
     class: u8,
 )
     requires whole { map length nodes.now ≡ node_sizes shape.now }
+    requires named { AreNamed shape.now nodes.now named.now }
     requires least { 1 ≤ region }
     requires most { region ≤ shape.now.regions }
     requires block { block < shape.now.blocks }
     requires class { class < CLASSES }
     requires few { IsAtMost (2 ^ 19) division.old }
-    ensures { division.new ≡ with_objects
-        (world_seen shape.now nodes.now [] [] ledger.now.ledger)
+    ensures { division.new ≡ with_objects shape.now nodes.now
         (objects_of_class region block class) division.old }
 {
+    prove!(shape.blocks <= 64);
+    let bits = word_of_region(nodes, shape, region, 64 + block);
     for j in 0..64 / units(class) {
         let object = object_at(shape, region, block, class, j);
-        count_object(division, state_of_object(nodes, shape, ledger, object));
+        let is_in_stock = (bits >> j) % 2 == 1;
+        let is_named = !is_in_stock && has_unit(named, shape, object.pointer);
+        count_object(division, is_in_stock, is_named);
     }
 }
 
@@ -160,6 +162,8 @@ fn object_at(shape: &Shape, region: u32, block: u32, class: u8, j: u32) -> Objec
     requires j { j < 64 / units_of class }
     ensures object { result ≡ object_at region block class j }
     ensures unit { IsUnit shape.now result.pointer }
+    ensures lies { unit_of result.pointer ≡ 16 + 64 * block + j * units_of class }
+    ensures region { region_of result.pointer ≡ region }
 {
     prove!(shape.blocks <= 64);
     prove!(shape.regions <= 63);

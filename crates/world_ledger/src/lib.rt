@@ -12,6 +12,7 @@ mod entries;
 pub mod laws;
 mod ledgers;
 mod losses;
+mod named_units;
 mod objects;
 mod readings;
 mod returns;
@@ -28,4 +29,4 @@ pub use objects::{
     block_in_force, is_in_stock, link_word_in_force, may_bear_on_stock, slot_of_present,
 };
 pub use readings::{deciding_word, epoch_in_force, is_lost, is_sealed, mask_in_force, primary_of};
-pub use states::{block_state, object_state, state_of_object};
+pub use states::{block_state, object_state};

@@ -47,9 +47,9 @@ pub fn block_state(
     }
 }
 
-/// Where an object is: in stock where its bit is set on its primary, else in the slot that names it,
-/// else with the client that last took or replaced it.
-pub fn state_of_object(nodes: &Nodes, shape: &Shape, ledger: &Ledger, object: Object) -> ObjectState
+// Where an object is: in stock where its bit is set on its primary, else in the slot that names it,
+// else with the client that last took or replaced it.
+fn state_of_object(nodes: &Nodes, shape: &Shape, ledger: &Ledger, object: Object) -> ObjectState
     requires whole { map length nodes.now ≡ node_sizes shape.now }
     requires unit { IsUnit shape.now object.pointer }
     requires class { object.class < CLASSES }

@@ -7,4 +7,4 @@ use Rattle.world_core.proofs.worlds.World.division.Goals as goal
 pub returns : goal.returns
 returns c =
     let world = world_of c.self.inside in
-    c.division.ensures ∙ seen-division world ∙ ap division_of c.self.view_is
+    c.division.ensures world.ledger ∙ seen-division world ∙ ap division_of c.self.view_is
