@@ -1,5 +1,6 @@
 pub mod FirstFault
 pub mod Keyword
+pub mod Lent
 pub mod LineForm
 pub mod LineRead
 pub mod Meaning

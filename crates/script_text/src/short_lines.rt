@@ -2,15 +2,15 @@
 //! what a script prints are such lines with a short key and a short value, so these are made in place:
 //! no memory is asked for.
 
-ghost use Rattle.std.specs.Prelude.{◌≡◌, ◌+◌, ◌≤◌, ◌++◌, [], ◌∷◌, false, length, map, true};
+ghost use Rattle.std.specs.Prelude.{◌≡◌, ◌+◌, ◌≤◌, ◌++◌, ◌&&◌, [], ◌∷◌, false, length, map, true};
+ghost use Rattle.script_text.specs.Lent.{call_lent, reply_lent};
 ghost use Rattle.script_text.specs.OutputPart.{call_parts, part_text, reply_parts};
 ghost use Rattle.script_text.specs.OutputText.{is_plain, is_plain_call, is_plain_reply, is_short, joined, line_text, line_words, spaced};
 ghost use Rattle.script_text.specs.Shown.{bytes_text};
 ghost use Rattle.script_text.specs.declared.out_lines.OutLine.TheVariants.{Called, Ended, Entry, Word};
 
-use crate::byte_text::Text;
-use crate::out_lines::{OutLine, ReplyText};
-use crate::scripts::CallText;
+use crate::lent::{LentCall, LentReply, lend_call, lend_reply};
+use crate::out_lines::OutLine;
 use crate::short_texts::{SHORT_LINE, put_number, put_text, put_word};
 use crate::writing::is_shown_as_is;
 use arrayvec::ArrayVec;
@@ -32,22 +32,55 @@ pub fn put_short_line(into: &mut ArrayVec<u8, SHORT_LINE>, out: &OutLine) -> boo
             client,
             number,
             call,
-        } => put_called(into, *client, *number, call),
+        } => put_called(into, *client, *number, lend_call(call)),
         OutLine::Ended {
             client,
             number,
             reply,
-        } => put_ended(into, *client, *number, reply),
+        } => put_ended(into, *client, *number, lend_reply(reply)),
         OutLine::Entry {
             client,
             number,
             call,
             reply,
             unreturned,
-        } => put_entry(into, *client, *number, call, reply, *unreturned),
+        } => {
+            return put_short_entry(
+                into,
+                *client,
+                *number,
+                lend_call(call),
+                lend_reply(reply),
+                *unreturned,
+            );
+        }
         OutLine::Word { node, at, word } => put_stored(into, *node, *at, *word),
         _ => return false,
     }
+    into.push(b'\n');
+    true
+}
+
+/// Puts the line of an entry with its line feed, where each key and each value in it has at most 16 bytes
+/// and is printed as it is, and answers true; else nothing, and false.
+pub fn put_short_entry(
+    into: &mut ArrayVec<u8, SHORT_LINE>,
+    client: u32,
+    number: u32,
+    call: LentCall<'_>,
+    reply: LentReply<'_>,
+    unreturned: bool,
+) -> bool
+    requires { into.old.items ≡ [] }
+    ensures short { result ≡ (is_plain_call (call_lent call.entry) && is_plain_reply (reply_lent reply.entry)) }
+    ensures line { result ≡ true → into.new.items
+        ≡ line_text (Entry client number (call_lent call.entry) (reply_lent reply.entry) unreturned) }
+    ensures other { result ≡ false → into.new.items ≡ [] }
+{
+    if !is_plain_call(call) || !is_plain_reply(reply) {
+        return false;
+    }
+    put_entry(into, client, number, call, reply, unreturned);
     into.push(b'\n');
     true
 }
@@ -56,44 +89,45 @@ fn is_short(out: &OutLine) -> bool
     ensures { result ≡ is_short out.now }
 {
     match out {
-        OutLine::Called { call, .. } => is_plain_call(call),
-        OutLine::Ended { reply, .. } => is_plain_reply(reply),
-        OutLine::Entry { call, reply, .. } => is_plain_call(call) && is_plain_reply(reply),
+        OutLine::Called { call, .. } => is_plain_call(lend_call(call)),
+        OutLine::Ended { reply, .. } => is_plain_reply(lend_reply(reply)),
+        OutLine::Entry { call, reply, .. } => {
+            is_plain_call(lend_call(call)) && is_plain_reply(lend_reply(reply))
+        }
         OutLine::Word { .. } => true,
         _ => false,
     }
 }
 
-fn is_plain_call(call: &CallText) -> bool
-    ensures { result ≡ is_plain_call call.now }
+fn is_plain_call(call: LentCall<'_>) -> bool
+    ensures { result ≡ is_plain_call (call_lent call.entry) }
 {
     match call {
-        CallText::Put { key, value } => is_plain(key) && is_plain(value),
-        CallText::Get { key } => is_plain(key),
-        CallText::Delete { key } => is_plain(key),
+        LentCall::Put { key, value } => is_plain(key) && is_plain(value),
+        LentCall::Get { key } => is_plain(key),
+        LentCall::Delete { key } => is_plain(key),
     }
 }
 
-fn is_plain_reply(reply: &ReplyText) -> bool
-    ensures { result ≡ is_plain_reply reply.now }
+fn is_plain_reply(reply: LentReply<'_>) -> bool
+    ensures { result ≡ is_plain_reply (reply_lent reply.entry) }
 {
     match reply {
-        ReplyText::Value(value) => is_plain(value),
+        LentReply::Value(value) => is_plain(value),
         _ => true,
     }
 }
 
-fn is_plain(bytes: &Text) -> bool
+fn is_plain(bytes: &[u8]) -> bool
     ensures { result ≡ is_plain bytes.now }
 {
-    let bytes = bytes.as_slice();
     bytes.len() < 17 && is_shown_as_is(bytes)
 }
 
-fn put_called(into: &mut ArrayVec<u8, SHORT_LINE>, client: u32, number: u32, call: &CallText)
+fn put_called(into: &mut ArrayVec<u8, SHORT_LINE>, client: u32, number: u32, call: LentCall<'_>)
     requires empty { into.old.items ≡ [] }
-    requires plain { is_plain_call call.now ≡ true }
-    ensures text { into.new.items ≡ joined (line_words (Called client number call.now)) }
+    requires plain { is_plain_call (call_lent call) ≡ true }
+    ensures text { into.new.items ≡ joined (line_words (Called client number (call_lent call.entry))) }
     ensures few { length into.new.items ≤ 127 }
 {
     put_text(into, b"called");
@@ -102,10 +136,10 @@ fn put_called(into: &mut ArrayVec<u8, SHORT_LINE>, client: u32, number: u32, cal
     put_call(into, call);
 }
 
-fn put_ended(into: &mut ArrayVec<u8, SHORT_LINE>, client: u32, number: u32, reply: &ReplyText)
+fn put_ended(into: &mut ArrayVec<u8, SHORT_LINE>, client: u32, number: u32, reply: LentReply<'_>)
     requires empty { into.old.items ≡ [] }
-    requires plain { is_plain_reply reply.now ≡ true }
-    ensures text { into.new.items ≡ joined (line_words (Ended client number reply.now)) }
+    requires plain { is_plain_reply (reply_lent reply) ≡ true }
+    ensures text { into.new.items ≡ joined (line_words (Ended client number (reply_lent reply.entry))) }
     ensures few { length into.new.items ≤ 127 }
 {
     put_text(into, b"ended");
@@ -118,14 +152,14 @@ fn put_entry(
     into: &mut ArrayVec<u8, SHORT_LINE>,
     client: u32,
     number: u32,
-    call: &CallText,
-    reply: &ReplyText,
+    call: LentCall<'_>,
+    reply: LentReply<'_>,
     unreturned: bool,
 )
     requires empty { into.old.items ≡ [] }
-    requires call { is_plain_call call.now ≡ true }
-    requires reply { is_plain_reply reply.now ≡ true }
-    ensures text { into.new.items ≡ joined (line_words (Entry client number call.now reply.now unreturned)) }
+    requires call { is_plain_call (call_lent call) ≡ true }
+    requires reply { is_plain_reply (reply_lent reply) ≡ true }
+    ensures text { into.new.items ≡ joined (line_words (Entry client number (call_lent call.entry) (reply_lent reply.entry) unreturned)) }
     ensures few { length into.new.items ≤ 127 }
 {
     into.push(b'h');
@@ -149,63 +183,63 @@ fn put_stored(into: &mut ArrayVec<u8, SHORT_LINE>, node: u32, at: u32, word: u64
     put_word(into, word);
 }
 
-fn put_call(into: &mut ArrayVec<u8, SHORT_LINE>, call: &CallText)
+fn put_call(into: &mut ArrayVec<u8, SHORT_LINE>, call: LentCall<'_>)
     requires room { length into.old.items + 38 ≤ 128 }
-    requires plain { is_plain_call call.now ≡ true }
-    ensures text { into.new.items ≡ into.old.items ++ spaced (map part_text (call_parts call.now)) }
+    requires plain { is_plain_call (call_lent call) ≡ true }
+    ensures text { into.new.items ≡ into.old.items ++ spaced (map part_text (call_parts (call_lent call.entry))) }
     ensures few { length into.new.items ≤ length into.old.items + 38 }
 {
     match call {
-        CallText::Put { key, value } => {
+        LentCall::Put { key, value } => {
             put_text(into, b" put");
             put_bytes(into, key);
             put_bytes(into, value);
         }
-        CallText::Get { key } => {
+        LentCall::Get { key } => {
             put_text(into, b" get");
             put_bytes(into, key);
         }
-        CallText::Delete { key } => {
+        LentCall::Delete { key } => {
             put_text(into, b" delete");
             put_bytes(into, key);
         }
     }
 }
 
-fn put_reply(into: &mut ArrayVec<u8, SHORT_LINE>, reply: &ReplyText)
+fn put_reply(into: &mut ArrayVec<u8, SHORT_LINE>, reply: LentReply<'_>)
     requires room { length into.old.items + 47 ≤ 128 }
-    requires plain { is_plain_reply reply.now ≡ true }
-    ensures text { into.new.items ≡ into.old.items ++ spaced (map part_text (reply_parts reply.now)) }
+    requires plain { is_plain_reply (reply_lent reply) ≡ true }
+    ensures text { into.new.items ≡ into.old.items ++ spaced (map part_text (reply_parts (reply_lent reply.entry))) }
     ensures few { length into.new.items ≤ length into.old.items + 47 }
 {
     match reply {
-        ReplyText::Done => put_text(into, b" Done"),
-        ReplyText::Value(value) => {
+        LentReply::Done => put_text(into, b" Done"),
+        LentReply::Value(value) => {
             put_text(into, b" Value");
             put_bytes(into, value);
         }
-        ReplyText::Absent => put_text(into, b" Absent"),
-        ReplyText::Full => put_text(into, b" Full"),
-        ReplyText::NoSpace {
+        LentReply::Absent => put_text(into, b" Absent"),
+        LentReply::Full => put_text(into, b" Full"),
+        LentReply::NoSpace {
             class,
             client,
             begin,
         } => {
             put_text(into, b" NoSpace");
-            put_number(into, *class);
-            put_number(into, *client);
-            put_word(into, *begin);
+            put_number(into, class);
+            put_number(into, client);
+            put_word(into, begin);
         }
     }
 }
 
 #[tactic(auto, unfolding(crate::specs::Shown::bytes_text))]
-fn put_bytes(into: &mut ArrayVec<u8, SHORT_LINE>, bytes: &Text)
+fn put_bytes(into: &mut ArrayVec<u8, SHORT_LINE>, bytes: &[u8])
     requires room { length into.old.items + 17 ≤ 128 }
     requires plain { is_plain bytes.now ≡ true }
     ensures text { into.new.items ≡ into.old.items ++ spaced (bytes_text bytes.now ∷ []) }
     ensures few { length into.new.items ≤ length into.old.items + 17 }
 {
     into.push(b' ');
-    put_text(into, bytes.as_slice());
+    put_text(into, bytes);
 }

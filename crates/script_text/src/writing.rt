@@ -12,7 +12,7 @@ ghost use Rattle.script_text.specs.declared.out_lines.OutLine.TheVariants.{Block
 use crate::byte_text::Text;
 use crate::out_lines::{NotYetText, OutLine, RefusalText, ReplyText};
 use crate::scripts::CallText;
-use crate::verb_texts::put_verb_line;
+use crate::verb_lines::put_verb_line;
 use crate::word_texts::{hex_digit, word_digits};
 use arrayvec::ArrayVec;
 use itoa::Buffer;
@@ -62,7 +62,7 @@ fn push_line(into: &mut Vec<u8>, out: &OutLine) -> Result<(), AllocError>
             number,
             reply,
         } => push_ended(into, *client, *number, reply),
-        OutLine::NotYet { actor, why } => push_waiting(into, *actor, why),
+        OutLine::NotYet { actor, why } => push_not_done(into, *actor, why),
         OutLine::Took { actor, verbs } => push_took(into, *actor, *verbs),
         OutLine::Stopped(client) => push_named(into, b"stopped", *client),
         OutLine::Lost(node) => push_named(into, b"lost", *node),
@@ -125,7 +125,7 @@ fn push_ended(
     push_reply(into, reply)
 }
 
-fn push_waiting(into: &mut Vec<u8>, actor: Option<u32>, why: &NotYetText) -> Result<(), AllocError>
+fn push_not_done(into: &mut Vec<u8>, actor: Option<u32>, why: &NotYetText) -> Result<(), AllocError>
     ensures { OnOk result (into.new.items ≡ into.old.items ++ joined (line_words (NotYet actor why.now))) }
 {
     into.extend_from_slice(b"notyet")?;

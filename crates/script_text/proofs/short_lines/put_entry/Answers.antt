@@ -1,6 +1,7 @@
-use Rattle.std.proofs.Common.{◌≡◌, ℕ, List, [], ◌∷◌, ◌++◌, ◌∙◌, codes, map, refl, ap, sym, append_assoc}
+use Rattle.std.proofs.Common.{◌≡◌, ℕ, List, [], ◌∷◌, ◌++◌, ◌∙◌, codes, map, ap, sym, append_assoc}
 use Rattle.std.proofs.lemmas.List.{map-append}
 use Rattle.std.specs.Fmt.{decimal}
+use Rattle.script_text.specs.Lent.{call_lent, reply_lent}
 use Rattle.script_text.specs.OutputPart.{call_parts, fixed, part_text, reply_parts}
 use Rattle.script_text.specs.OutputText.{spaced}
 use Rattle.script_text.proofs.SpacedLemmas.{spaced-append}
@@ -22,8 +23,8 @@ three_pieces name first second xs ys zs =
 
 pub returns-then-unreturned-clause-text : goal.returns-then-unreturned-clause-text
 returns-then-unreturned-clause-text c =
-    let call = call_parts c.args.call.now in
-    let reply = reply_parts c.args.reply.now in
+    let call = call_parts (call_lent c.args.call) in
+    let reply = reply_parts (reply_lent c.args.reply) in
     rw (
       c.put_text.ensures.text,
       c.put_reply.ensures.text,
