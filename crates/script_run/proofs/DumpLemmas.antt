@@ -1,5 +1,5 @@
 -- The words of a dump, node by node and word by word; and a history, entry by entry.
-use Rattle.std.proofs.Common.{◌≡◌, ℕ, zero, suc, ◌+◌, ◌<◌, ◌≤◌, ◌==◌, Bool, true, false, List, [], ◌∷◌, ◌++◌, length, map, get_or, drop, refl, sym, ap, ◌∙◌, append_assoc, add-one, arith, length-append}
+use Rattle.std.proofs.Common.{◌≡◌, ℕ, zero, suc, ◌+◌, ◌<◌, ◌≤◌, ◌==◌, Bool, true, false, if◌then◌else◌, List, [], ◌∷◌, ◌++◌, length, map, get_or, drop, refl, sym, ap, ◌∙◌, append_assoc, add-one, arith, length-append}
 use Rattle.std.specs.Prelude.{slice_index}
 use Rattle.std.proofs.Math.ListN.{length-replicate}
 use Rattle.std.proofs.Math.Seq.{drop-cons}
@@ -53,19 +53,18 @@ words-few node at [] = omega arith
 words-few node at (word ∷ words) =
     omega (arith, word-once node at word, length-append (word_line node at word) (words_from node (at + 1) words), words-few node (at + 1) words)
 
-pub words-text : (node at word : ℕ) (words : List ℕ) → at < length words → word ≡ slice_index words at
-    → text_of (words_from node at (drop at words)) ≡ text_of (word_line node at word) ++ text_of (words_from node (at + 1) (drop (at + 1) words))
-words-text node at word words within is =
-    ap text_of (words-step node at words within)
-    ∙ text_of-append (word_line node at (slice_index words at)) (words_from node (at + 1) (drop (at + 1) words))
-    ∙ ap (λ w. text_of (word_line node at w) ++ text_of (words_from node (at + 1) (drop (at + 1) words))) (sym is)
+-- a word that is not 0 has a line
+pub words-stored : (node at word : ℕ) (words : List ℕ) → at < length words → word ≡ slice_index words at → (slice_index words at == 0) ≡ false
+    → words_from node at (drop at words) ≡ out.Word node at word ∷ words_from node (at + 1) (drop (at + 1) words)
+words-stored node at word words within is stored =
+    words-step node at words within
+    ∙ ap (λ none. (if none then [] else out.Word node at (slice_index words at) ∷ []) ++ words_from node (at + 1) (drop (at + 1) words)) stored
+    ∙ ap (λ w. out.Word node at w ∷ words_from node (at + 1) (drop (at + 1) words)) (sym is)
 
-pub words-length : (node at word : ℕ) (words : List ℕ) → at < length words → word ≡ slice_index words at
-    → length (words_from node at (drop at words)) ≡ length (word_line node at word) + length (words_from node (at + 1) (drop (at + 1) words))
-words-length node at word words within is =
-    ap length (words-step node at words within)
-    ∙ length-append (word_line node at (slice_index words at)) (words_from node (at + 1) (drop (at + 1) words))
-    ∙ ap (λ w. length (word_line node at w) + length (words_from node (at + 1) (drop (at + 1) words))) (sym is)
+-- one that is 0 has none
+pub words-zero : (node at : ℕ) (words : List ℕ) → at < length words → slice_index words at ≡ 0 → words_from node at (drop at words) ≡ words_from node (at + 1) (drop (at + 1) words)
+words-zero node at words within none =
+    words-step node at words within ∙ ap (λ w. word_line node at w ++ words_from node (at + 1) (drop (at + 1) words)) none
 
 pub words-none : (node at : ℕ) (words : List ℕ) → length words ≤ at → words_from node at (drop at words) ≡ []
 words-none node at words past = ap (words_from node at) (drop_all at words past)

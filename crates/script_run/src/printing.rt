@@ -1,9 +1,9 @@
 // What is printed of the world: its words, the sizes of its parts, and its history.
 
-ghost use Rattle.std.specs.Prelude.{◌≡◌, ◌<◌, ◌≤◌, ◌++◌, IfOk, length, map};
+ghost use Rattle.std.specs.Prelude.{◌≡◌, ◌<◌, ◌≤◌, ◌==◌, ◌++◌, IfOk, drop, false, length, map, slice_index};
 ghost use Rattle.machine_world.specs.Ledger.{entry_of};
 ghost use Rattle.outside.specs.Faults.{IsSteady};
-ghost use Rattle.script_meaning.specs.Shown.{division_lines, dump_lines, entry_line, history_lines, word_line, words_from};
+ghost use Rattle.script_meaning.specs.Shown.{division_lines, dump_lines, entry_line, history_lines, shown_call, shown_reply, words_from};
 ghost use Rattle.script_run.specs.Dumps.{words_at};
 ghost use Rattle.script_run.specs.Written.{Writes};
 ghost use Rattle.script_text.specs.OutputText.{line_text, text_of};
@@ -12,11 +12,13 @@ ghost use Rattle.verb_history.specs.Points.{entered_of};
 ghost use Rattle.verb_words.specs.Words.{words_on};
 
 use crate::line_writing::{write_dumped, write_history_count};
-use crate::shown::{shown_call, shown_reply};
-use crate::writing::{Unwritten, write_line, write_lines};
+use crate::shown::{lend_call, lend_reply, shown_call, shown_reply};
+use crate::writing::{Unwritten, write_all, write_line, write_lines};
+use arrayvec::ArrayVec;
+use map_model::Entry;
 use outside::Sink;
 use region_view::Shape;
-use script_text::OutLine;
+use script_text::{OutLine, put_short_entry};
 use std::alloc::Global;
 use verb_history::Placed;
 use verb_words::{Nodes, Place};
@@ -102,7 +104,8 @@ fn write_entries<K: Sink>(
     Ok(())
 }
 
-// Writes an entry, with the mark that it has now.
+// Writes an entry, with the mark that it has now. Most have a short key and a short value, and their
+// line is made of these in place.
 fn write_entry<K: Sink>(
     alloc: Global,
     world: &World,
@@ -115,6 +118,34 @@ fn write_entry<K: Sink>(
     ensures steady { IsSteady K.cannot_fail K.faults sink.old sink.new }
 {
     let entry = &placed.entry;
+    let unreturned = !world.has_returned(entry.client, entry.number);
+    let mut short = ArrayVec::new();
+    if put_short_entry(
+        &mut short,
+        entry.client,
+        entry.number,
+        lend_call(&entry.call),
+        lend_reply(&entry.reply),
+        unreturned,
+    ) {
+        return write_all(short.as_slice(), sink);
+    }
+    write_long_entry(alloc, entry, unreturned, sink)
+}
+
+#[inline(never)]
+fn write_long_entry<K: Sink>(
+    alloc: Global,
+    entry: &Entry,
+    unreturned: bool,
+    sink: &mut K,
+) -> Result<(), Unwritten>
+    ensures written { Writes K.held K.faults sink.old sink.new result
+        (line_text (out.Entry entry.now.client entry.now.number
+        (shown_call entry.now.call) (shown_reply entry.now.reply) unreturned)) }
+    ensures later { K.faults sink.old ≤ K.faults sink.new }
+    ensures steady { IsSteady K.cannot_fail K.faults sink.old sink.new }
+{
     let call = shown_call(alloc, &entry.call)?;
     let reply = shown_reply(alloc, &entry.reply)?;
     let line = OutLine::Entry {
@@ -122,7 +153,7 @@ fn write_entry<K: Sink>(
         number: entry.number,
         call,
         reply,
-        unreturned: !world.has_returned(entry.client, entry.number),
+        unreturned,
     };
     write_line(alloc, &line, sink)
 }
@@ -176,34 +207,33 @@ fn write_node<K: Sink>(
     ensures steady { IsSteady K.cannot_fail K.faults sink.old sink.new }
 {
     let mut count = 0;
-    for at in 0..words {
+    let mut at = stored_from(nodes, node, 0, words);
+    while at < words {
         let word = nodes.word(Place { node, at });
-        match write_word(alloc, node, at, word, sink) {
-            Ok(lines) => count += lines,
+        match write_line(alloc, &OutLine::Word { node, at, word }, sink) {
+            Ok(()) => count += 1,
             Err(why) => return Err(why),
         }
+        at = stored_from(nodes, node, at + 1, words);
     }
     Ok(count)
 }
 
-// Writes a word that is not 0, and answers how many lines that took.
-fn write_word<K: Sink>(
-    alloc: Global,
-    node: u32,
-    at: u32,
-    word: u64,
-    sink: &mut K,
-) -> Result<u32, Unwritten>
-    ensures written { Writes K.held K.faults sink.old sink.new result (text_of (word_line node at word)) }
-    ensures count { IfOk result (λ count. count ≡ length (word_line node at word)) }
-    ensures later { K.faults sink.old ≤ K.faults sink.new }
-    ensures steady { IsSteady K.cannot_fail K.faults sink.old sink.new }
+// The next word that is not 0, from this one on; where there is none, the end. Most words are 0.
+fn stored_from(nodes: &Nodes, node: u32, from: u32, words: u32) -> u32
+    requires node { node < length nodes.now }
+    requires words { words ≡ length (words_on nodes.now node) }
+    requires from { from ≤ words }
+    ensures least { from ≤ result }
+    ensures most { result ≤ words }
+    ensures stored { result < words → (slice_index (words_on nodes.now node) result == 0) ≡ false }
+    ensures rest { words_from node from (drop from (words_on nodes.now node))
+        ≡ words_from node result (drop result (words_on nodes.now node)) }
 {
-    if word == 0 {
-        return Ok(0);
+    for at in from..words {
+        if nodes.word(Place { node, at }) != 0 {
+            return at;
+        }
     }
-    match write_line(alloc, &OutLine::Word { node, at, word }, sink) {
-        Ok(()) => Ok(1),
-        Err(why) => Err(why),
-    }
+    words
 }

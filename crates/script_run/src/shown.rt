@@ -4,6 +4,7 @@ ghost use Rattle.std.specs.Prelude.{◌≡◌, IfOk, map, not};
 ghost use Rattle.script_meaning.specs.Shown.{found_in, is_refused, shown_actor, shown_call, shown_reply, shown_verb, shown_why};
 ghost use Rattle.script_meaning.specs.Lines.{client_of, line_of_joining, line_of_recovery, line_of_settling};
 ghost use Rattle.script_run.specs.Turns.{ended_by, ended_of, subject_in, told_by, told_of_step};
+ghost use Rattle.script_text.specs.Lent.{call_lent, reply_lent};
 ghost use Rattle.trace_audit.specs.Told.{call_of};
 ghost use Rattle.verb_history.specs.Moments.{moment_of};
 
@@ -12,7 +13,7 @@ use machine::joining::Joined;
 use machine::recovery::Recovering;
 use machine::settling::Settled;
 use map_model::{Bytes, Call, Reply};
-use script_text::{CallText, NotYetText, OutLine, ReplyText, Text};
+use script_text::{CallText, LentCall, LentReply, NotYetText, OutLine, ReplyText, Text};
 use std::alloc::{AllocError, Global};
 use verb_history::Moment;
 use verb_words::{Answer, Verb, Why};
@@ -90,6 +91,45 @@ pub(crate) fn shown_reply(alloc: Global, reply: &Reply) -> Result<ReplyText, All
             client: *client,
             begin: *begin,
         }),
+    }
+}
+
+/// A call as a line names it, with its bytes lent.
+pub(crate) fn lend_call(call: &Call) -> LentCall<'_>
+    ensures { call_lent result ≡ shown_call call.now }
+{
+    match call {
+        Call::Get { key } => LentCall::Get {
+            key: key.as_slice(),
+        },
+        Call::Put { key, value } => LentCall::Put {
+            key: key.as_slice(),
+            value: value.as_slice(),
+        },
+        Call::Delete { key } => LentCall::Delete {
+            key: key.as_slice(),
+        },
+    }
+}
+
+/// A reply as a line names it, with its bytes lent.
+pub(crate) fn lend_reply(reply: &Reply) -> LentReply<'_>
+    ensures { reply_lent result ≡ shown_reply reply.now }
+{
+    match reply {
+        Reply::Done => LentReply::Done,
+        Reply::Value(value) => LentReply::Value(value.as_slice()),
+        Reply::Absent => LentReply::Absent,
+        Reply::Full => LentReply::Full,
+        Reply::NoSpace {
+            class,
+            client,
+            begin,
+        } => LentReply::NoSpace {
+            class: u32::from(*class),
+            client: *client,
+            begin: *begin,
+        },
     }
 }
 

@@ -217,7 +217,8 @@ fn take_unshown<K: Sink>(
     ensures steady { IsSteady K.cannot_fail K.faults sink.old sink.new }
 {
     match world.step(client) {
-        Ok(step) => write_step(alloc, client, step, world.moments(), sink),
+        Ok(Step::Going) => Ok(false),
+        Ok(step) => write_told_step(alloc, client, step, world.moments(), sink),
         Err(_) => Err(Unwritten::NoMemory),
     }
 }
