@@ -1,3 +1,4 @@
 pub mod PlaceLemmas
 pub mod WordsLemmas
 pub mod AppliedLemmas
+pub mod PagesLemmas

@@ -1,4 +1,4 @@
-use Rattle.std.specs.Prelude.{ℕ, ◌<◌, Bool, not, ◌==◌, ◌&&◌, List, [], length, slice_index, slice_index_or, slice_set}
+use Rattle.std.specs.Prelude.{◌≡◌, ◌≢◌, ℕ, ◌<◌, ◌≤◌, Bool, not, ◌==◌, ◌&&◌, List, [], length, slice_index, slice_index_or, slice_set}
 use Rattle.verb_words.specs.declared.verbs.Place.{Place}
 
 -- the words of all nodes are one list for each node, the control node's first; here those on one node
@@ -26,3 +26,10 @@ status_of words node = slice_index (words_on words 0) node
 -- a node is lost: it is not the control node, and its status word is not 0
 abbrev pub is_lost : List (List ℕ) → ℕ → Bool
 is_lost words node = not (node == 0) && not (status_of words node == 0)
+
+-- the next position, from another on, whose word is not 0; or the end, where there is none
+pub record IsNextStored (words : List ℕ) (from at : ℕ) : Type 0 where
+  pub least : from ≤ at
+  pub most : at ≤ length words
+  pub stored : at < length words → slice_index words at ≢ 0
+  pub zeros : (other : ℕ) → from ≤ other → other < at → slice_index words other ≡ 0

@@ -5,9 +5,11 @@
 #![tactic(auto)]
 
 mod memory;
+mod pages;
 mod verbs;
 
 pub use memory::{MOST_NODES, Nodes};
+pub use pages::Pages;
 pub use verbs::{Answer, Place, Verb, Why};
 
 #[cfg(test)]

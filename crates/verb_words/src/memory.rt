@@ -2,9 +2,11 @@ ghost use Rattle.std.specs.Prelude.{◌≡◌, ◌≢◌, ◌<◌, ◌≤◌, �
 ghost use Rattle.verb_words.specs.declared.verbs.Place.{Place};
 ghost use Rattle.verb_words.specs.declared.memory.TheConstants.{MOST_NODES};
 ghost use Rattle.verb_words.specs.Verb.{place_of};
-ghost use Rattle.verb_words.specs.Words.{words_on, word_at, with_word, is_lost, HasPlace};
+ghost use Rattle.verb_words.specs.Words.{words_on, word_at, with_word, is_lost, HasPlace, IsNextStored};
+ghost use Rattle.verb_words.specs.Lists.{words_of};
 ghost use Rattle.verb_words.specs.Applied.{is_refused, answer_to, words_after};
 
+use crate::pages::Pages;
 use crate::verbs::{Answer, Place, Verb};
 use std::marker::Model;
 
@@ -17,17 +19,23 @@ pub const MOST_NODES: usize = 9;
 /// where it is lost. The control node is never lost.
 #[derive(Debug, Drop)]
 pub struct Nodes {
-    lists: Vec<Vec<u64>>,
+    lists: Lists,
+}
+
+/// The lists of words, as they were handed in.
+#[derive(Debug, Drop)]
+enum Lists {
+    Whole(Vec<Vec<u64>>),
+    Paged(Vec<Pages>),
 }
 
 impl Model for Nodes {
     ghost Value = { List (List ℕ) };
 
-    ghost view = { λ nodes. map (λ list. list.items) nodes.lists.items };
+    ghost view = { λ nodes. words_of nodes.lists };
 
-    ghost invariant = { λ nodes.
-        (MOST_NODES ≤ length (words_on (map (λ list. list.items) nodes.lists.items) 0))
-        × (length nodes.lists.items ≤ MOST_NODES) };
+    ghost invariant = { λ nodes. (MOST_NODES ≤ length (words_on (words_of nodes.lists) 0))
+        × (length (words_of nodes.lists) ≤ MOST_NODES) };
 }
 
 impl Nodes {
@@ -37,7 +45,20 @@ impl Nodes {
         requires nodes { length lists.items ≤ MOST_NODES }
         ensures { result ≡ map (λ list. list.items) lists.items }
     {
-        Nodes { lists }
+        Nodes {
+            lists: Lists::Whole(lists),
+        }
+    }
+
+    /// Nodes with these words, in pages.
+    pub fn of_pages(lists: Vec<Pages>) -> Nodes
+        requires statuses { MOST_NODES ≤ length (words_on lists.items 0) }
+        requires nodes { length lists.items ≤ MOST_NODES }
+        ensures { result ≡ lists.items }
+    {
+        Nodes {
+            lists: Lists::Paged(lists),
+        }
     }
 
     /// The word at a place.
@@ -45,7 +66,17 @@ impl Nodes {
         requires { HasPlace self.now place }
         ensures { result ≡ word_at self.now place }
     {
-        self.lists[place.node as usize][place.at as usize]
+        self.lists.word(place)
+    }
+
+    /// The next position on a node, from this one on, whose word is not 0; or how many words the node
+    /// has, where none is.
+    pub fn stored_from(&self, node: u32, from: usize) -> usize
+        requires node { node < length self.now }
+        requires from { from ≤ length (words_on self.now node) }
+        ensures { IsNextStored (words_on self.now node) from result }
+    {
+        self.lists.stored_from(node, from)
     }
 
     /// Does one verb, as one step, and answers it.
@@ -67,7 +98,10 @@ impl Nodes {
             return Answer::Lost;
         }
         let found = self.word(place);
-        self.store(place, verb.word_after(found));
+        let word = verb.word_after(found);
+        if word != found {
+            self.store(place, word);
+        }
         verb.answer(found)
     }
 
@@ -75,13 +109,58 @@ impl Nodes {
         requires { node < length self.now }
         ensures { result ≡ is_lost self.now node }
     {
-        node != 0 && self.lists[0][node as usize] != 0
+        node != 0 && self.lists.word(Place { node: 0, at: node }) != 0
     }
 
     fn store(&mut self, place: Place, word: u64)
         requires { HasPlace self.old place }
         ensures { self.new ≡ with_word self.old place word }
     {
-        self.lists[place.node as usize][place.at as usize] = word;
+        self.lists.store(place, word);
     }
+}
+
+impl Lists {
+    fn word(&self, place: Place) -> u64
+        requires { HasPlace (words_of self.now) place }
+        ensures { result ≡ word_at (words_of self.now) place }
+    {
+        match self {
+            Lists::Whole(lists) => lists[place.node as usize][place.at as usize],
+            Lists::Paged(lists) => lists[place.node as usize].word(place.at as usize),
+        }
+    }
+
+    fn stored_from(&self, node: u32, from: usize) -> usize
+        requires node { node < length (words_of self.now) }
+        requires from { from ≤ length (words_on (words_of self.now) node) }
+        ensures { IsNextStored (words_on (words_of self.now) node) from result }
+    {
+        match self {
+            Lists::Whole(lists) => stored_in(&lists[node as usize], from),
+            Lists::Paged(lists) => lists[node as usize].stored_from(from),
+        }
+    }
+
+    fn store(&mut self, place: Place, word: u64)
+        requires { HasPlace (words_of self.old) place }
+        ensures { words_of self.new ≡ with_word (words_of self.old) place word }
+    {
+        match self {
+            Lists::Whole(lists) => lists[place.node as usize][place.at as usize] = word,
+            Lists::Paged(lists) => lists[place.node as usize].set(place.at as usize, word),
+        }
+    }
+}
+
+fn stored_in(words: &[u64], from: usize) -> usize
+    requires { from ≤ length words.now }
+    ensures { IsNextStored words.now from result }
+{
+    for at in from..words.len() {
+        if words[at] != 0 {
+            return at;
+        }
+    }
+    words.len()
 }

@@ -61,3 +61,37 @@ fn a_lost_node_is_refused(rt: HostRuntime) -> Result<(), Fail> {
     assert_eq!(rt; nodes.apply(Verb::Read(place), true), Answer::Word(60));
     Ok(())
 }
+
+#[test]
+fn pages_are_there_once_written(rt: HostRuntime) -> Result<(), Fail> {
+    let mut pages = Pages::zeros(rt.alloc(), 1025)?;
+    assert_eq!(rt; pages.word(0), 0);
+    pages.set(1024, 40);
+    assert_eq!(rt; pages.word(512), 0);
+    assert_eq!(rt; pages.stored_from(0), 1024);
+    pages.set(511, 50);
+    pages.set(512, 60);
+    assert_eq!(rt; pages.word(0), 0);
+    assert_eq!(rt; pages.word(511), 50);
+    assert_eq!(rt; pages.word(512), 60);
+    assert_eq!(rt; pages.word(1024), 40);
+    assert_eq!(rt; pages.stored_from(0), 511);
+    assert_eq!(rt; pages.stored_from(513), 1024);
+    assert_eq!(rt; pages.stored_from(1025), 1025);
+    Ok(())
+}
+
+#[test]
+fn verbs_on_pages(rt: HostRuntime) -> Result<(), Fail> {
+    let control = Pages::zeros(rt.alloc(), 9)?;
+    let memory = Pages::zeros(rt.alloc(), 9)?;
+    let mut nodes = Nodes::of_pages(vec![in rt.alloc(); control, memory]?);
+    let place = Place { node: 1, at: 8 };
+    let status = Place { node: 0, at: 1 };
+    assert_eq!(rt; nodes.apply(Verb::Add(place, 7), true), Answer::Word(0));
+    assert_eq!(rt; nodes.apply(Verb::Write(status, 1), true), Answer::Done);
+    assert_eq!(rt; nodes.apply(Verb::Write(place, 0), true), Answer::Lost);
+    assert_eq!(rt; nodes.word(place), 7);
+    assert_eq!(rt; nodes.stored_from(1, 0), 8);
+    Ok(())
+}
