@@ -1,4 +1,5 @@
 mod ClientLemmas
+mod FirstNodesLemmas
 mod ReachedLemmas
 mod StepLemmas
 mod ActLemmas

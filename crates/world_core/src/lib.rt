@@ -6,6 +6,7 @@ mod advancing;
 mod calling;
 mod calls;
 mod dues;
+mod first_nodes;
 pub mod laws;
 mod openings;
 mod outside;

@@ -2,11 +2,12 @@ ghost use Rattle.std.specs.Prelude.{◌≡◌, ◌≤◌, IfOk, true};
 ghost use Rattle.machine_world.specs.World.{client_at, first_world, is_registered, is_stopped};
 ghost use Rattle.region_view.specs.Sizes.{all_words};
 
+use crate::first_nodes::first_nodes;
 use client_recovery::Recovery;
 use kv_ops::Actor;
 use node_join::Join;
 use node_recovery::Settling;
-use region_view::{Shape, first_words};
+use region_view::Shape;
 use std::alloc::{AllocError, Global};
 use std::marker::Model;
 use verb_history::Moment;
@@ -60,10 +61,9 @@ impl World {
         requires { all_words shape ≤ 2097152 }
         ensures { IfOk result (λ world. world ≡ first_world shape) }
     {
-        prove!(shape.nodes <= 8);
         Ok(World {
             shape,
-            nodes: Nodes::of_words(first_words(alloc, &shape)?),
+            nodes: first_nodes(alloc, &shape)?,
             clients: Vec::with_capacity(alloc, shape.clients as usize)?,
             task: Working::Rest,
             won: Clients::new(),
