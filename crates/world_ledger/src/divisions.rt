@@ -10,7 +10,7 @@ ghost use Rattle.world_ledger.specs.NamedUnits.{AreNamed};
 ghost use Rattle.world_ledger.specs.Seen.{IsUnit, words_seen, world_seen};
 
 use crate::clients::Clients;
-use crate::named_units::{MOST_BLOCKS, has_unit, named_units};
+use crate::named_units::{MOST_BLOCKS, add_named_units, has_unit};
 use crate::readings::word_of_region;
 use crate::states::{block_state, class_in_force};
 use key_test::Object;
@@ -93,7 +93,8 @@ fn count_all_objects(division: &mut Division, nodes: &Nodes, shape: &Shape)
     ensures { division.new ≡ with_objects shape.now nodes.now
         (granted_objects (words_seen shape.now nodes.now)) division.old }
 {
-    let named = named_units(nodes, shape);
+    let mut named = [0; MOST_BLOCKS];
+    add_named_units(&mut named, nodes, shape);
     for position in 0..shape.regions * shape.blocks {
         let region = 1 + position / shape.blocks;
         let block = position % shape.blocks;
@@ -145,7 +146,13 @@ fn count_objects_of(
 {
     prove!(shape.blocks <= 64);
     let bits = word_of_region(nodes, shape, region, 64 + block);
-    for j in 0..64 / units(class) {
+    let count = 64 / units(class);
+    for j in 0..count {
+        if bits >> j == u64::MAX >> j {
+            // All others are in stock, as they are once those in use were taken first.
+            division.stock += count - j;
+            return;
+        }
         let object = object_at(shape, region, block, class, j);
         let is_in_stock = (bits >> j) % 2 == 1;
         let is_named = !is_in_stock && has_unit(named, shape, object.pointer);

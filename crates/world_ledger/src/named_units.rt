@@ -1,7 +1,7 @@
 //! The units of a pool's blocks that slots name. They are looked up once for all objects: else the slots
 //! are searched for each object that is not in stock.
 
-ghost use Rattle.std.specs.Prelude.{◌≡◌, ℕ, ◌*◌, ◌<◌, ◌≤◌, ◌||◌, ◌==◌, map, length};
+ghost use Rattle.std.specs.Prelude.{◌≡◌, ℕ, ◌*◌, ◌<◌, ◌≤◌, ◌||◌, ◌==◌, map, length, false};
 ghost use Rattle.machine_world.specs.Standing.{node_sizes};
 ghost use Rattle.world_ledger.specs.NamedUnits.{AreNamed, has_unit, unit_place};
 ghost use Rattle.world_ledger.specs.Seen.{IsUnit};
@@ -15,19 +15,18 @@ use verb_words::Nodes;
 /// The most blocks that a pool has: 64 in each of 63 regions.
 pub(crate) const MOST_BLOCKS: usize = 4032;
 
-/// For each block a bit for each of its units, set where the deciding word of a slot names an object
-/// there.
-pub(crate) fn named_units(nodes: &Nodes, shape: &Shape) -> [u64; MOST_BLOCKS]
-    requires { map length nodes.now ≡ node_sizes shape.now }
-    ensures { AreNamed shape.now nodes.now result }
+/// Sets for each block a bit for each of its units where the deciding word of a slot names an object.
+/// The bits are handed in, as 32 KB are much to hand back.
+pub(crate) fn add_named_units(units: &mut [u64; MOST_BLOCKS], nodes: &Nodes, shape: &Shape)
+    requires whole { map length nodes.now ≡ node_sizes shape.now }
+    requires none { (pointer : ℕ) → has_unit units.old pointer ≡ false }
+    ensures { AreNamed shape.now nodes.now units.new }
 {
-    let mut units = [0; MOST_BLOCKS];
     for slot in 0..24 * shape.groups {
         if let Some(object) = object_in(shape, deciding_word(nodes, shape, slot)) {
-            add_unit(&mut units, shape, object.pointer);
+            add_unit(units, shape, object.pointer);
         }
     }
-    units
 }
 
 fn add_unit(units: &mut [u64; MOST_BLOCKS], shape: &Shape, pointer: u32)

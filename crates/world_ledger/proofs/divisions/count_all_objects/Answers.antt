@@ -3,9 +3,13 @@ use Rattle.std.specs.List.{flat_map, range_with_len}
 use Rattle.machine_world.specs.Readings.{objects_in}
 use Rattle.region_view.specs.Sizes.{Sizes}
 use Rattle.world_ledger.proofs.DivisionLemmas.{at_most-more, granted-more, objects-more, objects_in-few, with_objects-append}
+use Rattle.world_ledger.proofs.NamedUnitsLemmas.{has_unit-zeros}
 use Rattle.world_ledger.specs.Divisions.{IsAtMost, block_at, with_objects}
 use Rattle.world_ledger.specs.Seen.{words_seen}
 use Rattle.world_ledger.proofs.divisions.count_all_objects.Goals as goal
+
+pub add_named_units-requires-clause-none : goal.add_named_units-requires-clause-none
+add_named_units-requires-clause-none c pointer = has_unit-zeros 4032 pointer
 
 pub loop-position-preserved : goal.loop-position-preserved
 loop-position-preserved c =

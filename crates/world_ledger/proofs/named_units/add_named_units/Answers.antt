@@ -4,14 +4,14 @@ use Rattle.std.specs.Option.{option_map_or}
 use Rattle.machine.specs.ObjectNames.{Object}
 use Rattle.machine_world.specs.Readings.{deciding_word, names, slot_of_present}
 use Rattle.region_view.specs.Sizes.{Sizes}
-use Rattle.world_ledger.proofs.NamedUnitsLemmas.{has_unit-zeros, is_some-find, list_any-more, none_more}
+use Rattle.world_ledger.proofs.NamedUnitsLemmas.{is_some-find, list_any-more, none_more}
 use Rattle.world_ledger.proofs.ReadingLemmas.{object_unit}
 use Rattle.world_ledger.specs.NamedUnits.{has_unit}
-use Rattle.world_ledger.proofs.named_units.named_units.Goals as goal
-use Rattle.world_ledger.proofs.named_units.named_units.Goals.{in-Some, in_default}
+use Rattle.world_ledger.proofs.named_units.add_named_units.Goals as goal
+use Rattle.world_ledger.proofs.named_units.add_named_units.Goals.{in-Some, in_default}
 
 pub loop-slot-init : goal.loop-slot-init
-loop-slot-init c pointer unit = has_unit-zeros 4032 pointer
+loop-slot-init c pointer unit = c.requires.none pointer
 
 pub add_unit-requires : goal.add_unit-requires
 add_unit-requires c = object_unit c.args.shape.now _ _ c.object.view_is c.in-Some.ensures.object

@@ -3,7 +3,7 @@ use Rattle.std.specs.List.{list_any, range_with_len}
 use Rattle.machine_world.specs.Readings.{deciding_word, names}
 use Rattle.world_ledger.specs.NamedUnits.{has_unit}
 use Rattle.world_ledger.specs.Seen.{IsUnit}
-use Rattle.world_ledger.proofs.named_units.named_units.Given as goal
+use Rattle.world_ledger.proofs.named_units.add_named_units.Given as goal
 
 abbrev pub invariant-loop-slot : goal.invariant-loop-slot
 invariant-loop-slot l = (pointer : ℕ) → IsUnit l.shape pointer
