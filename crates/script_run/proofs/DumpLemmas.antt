@@ -1,5 +1,5 @@
 -- The words of a dump, node by node and word by word; and a history, entry by entry.
-use Rattle.std.proofs.Common.{◌≡◌, ℕ, zero, suc, ◌+◌, ◌<◌, ◌≤◌, ◌==◌, Bool, true, false, if◌then◌else◌, List, [], ◌∷◌, ◌++◌, length, map, get_or, drop, refl, sym, ap, ◌∙◌, append_assoc, add-one, arith, length-append}
+use Rattle.std.proofs.Common.{◌≡◌, ℕ, zero, suc, ◌+◌, ◌-◌, ◌<◌, ◌≤◌, ◌==◌, Bool, true, false, if◌then◌else◌, List, [], ◌∷◌, ◌++◌, length, map, get_or, drop, refl, sym, ap, ◌∙◌, append_assoc, add-one, arith, length-append}
 use Rattle.std.specs.Prelude.{slice_index}
 use Rattle.std.proofs.Math.ListN.{length-replicate}
 use Rattle.std.proofs.Math.Seq.{drop-cons}
@@ -62,9 +62,33 @@ words-stored node at word words within is stored =
     ∙ ap (λ w. out.Word node at w ∷ words_from node (at + 1) (drop (at + 1) words)) (sym is)
 
 -- one that is 0 has none
-pub words-zero : (node at : ℕ) (words : List ℕ) → at < length words → slice_index words at ≡ 0 → words_from node at (drop at words) ≡ words_from node (at + 1) (drop (at + 1) words)
+words-zero : (node at : ℕ) (words : List ℕ) → at < length words → slice_index words at ≡ 0 → words_from node at (drop at words) ≡ words_from node (at + 1) (drop (at + 1) words)
 words-zero node at words within none =
     words-step node at words within ∙ ap (λ w. word_line node at w ++ words_from node (at + 1) (drop (at + 1) words)) none
+
+-- so many that are 0 have none
+zeros-run : (node at n : ℕ) (words : List ℕ) → at + n ≤ length words → ((k : ℕ) → at ≤ k → k < at + n → slice_index words k ≡ 0)
+    → words_from node at (drop at words) ≡ words_from node (at + n) (drop (at + n) words)
+zeros-run node at zero words within none = ap (λ k. words_from node k (drop k words)) (stays at)
+  where
+    stays : (k : ℕ) → k ≡ k + 0
+    stays k = omega arith
+zeros-run node at (suc n) words within none =
+    words-zero node at words (omega (arith, within)) (none at (omega arith) (omega arith))
+    ∙ zeros-run node (at + 1) n words (omega (arith, within)) (λ k least most. none k (omega (arith, least)) (omega (arith, most)))
+    ∙ ap (λ k. words_from node k (drop k words)) (moved at n)
+  where
+    moved : (k l : ℕ) → k + 1 + l ≡ k + suc l
+    moved k l = omega arith
+
+-- those before the next that is not 0 have none
+pub words-between : (node from at : ℕ) (words : List ℕ) → from ≤ at → at ≤ length words → ((k : ℕ) → from ≤ k → k < at → slice_index words k ≡ 0)
+    → words_from node from (drop from words) ≡ words_from node at (drop at words)
+words-between node from at words least most none =
+    let n = at - from in
+    let is : from + n ≡ at = omega (arith, least) in
+    zeros-run node from n words (omega (arith, is, most)) (λ k low high. none k low (omega (arith, is, high)))
+    ∙ ap (λ k. words_from node k (drop k words)) is
 
 pub words-none : (node at : ℕ) (words : List ℕ) → length words ≤ at → words_from node at (drop at words) ≡ []
 words-none node at words past = ap (words_from node at) (drop_all at words past)

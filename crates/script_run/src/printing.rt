@@ -230,10 +230,5 @@ fn stored_from(nodes: &Nodes, node: u32, from: u32, words: u32) -> u32
     ensures rest { words_from node from (drop from (words_on nodes.now node))
         ≡ words_from node result (drop result (words_on nodes.now node)) }
 {
-    for at in from..words {
-        if nodes.word(Place { node, at }) != 0 {
-            return at;
-        }
-    }
-    words
+    nodes.stored_from(node, from as usize) as u32
 }
