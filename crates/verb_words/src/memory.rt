@@ -1,4 +1,4 @@
-ghost use Rattle.std.specs.Prelude.{◌≡◌, ◌≢◌, ◌<◌, ◌≤◌, ℕ, List, map, length};
+ghost use Rattle.std.specs.Prelude.{◌≡◌, ◌≢◌, ◌<◌, ◌≤◌, ℕ, List, false, map, length, slice_index_or};
 ghost use Rattle.verb_words.specs.declared.verbs.Place.{Place};
 ghost use Rattle.verb_words.specs.declared.memory.TheConstants.{MOST_NODES};
 ghost use Rattle.verb_words.specs.Verb.{place_of};
@@ -20,6 +20,8 @@ pub const MOST_NODES: usize = 9;
 #[derive(Debug, Drop)]
 pub struct Nodes {
     lists: Lists,
+    /// Which nodes are lost, as their status words tell: each verb asks.
+    lost: [bool; MOST_NODES],
 }
 
 /// The lists of words, as they were handed in.
@@ -35,7 +37,8 @@ impl Model for Nodes {
     ghost view = { λ nodes. words_of nodes.lists };
 
     ghost invariant = { λ nodes. (MOST_NODES ≤ length (words_on (words_of nodes.lists) 0))
-        × (length (words_of nodes.lists) ≤ MOST_NODES) };
+        × (length (words_of nodes.lists) ≤ MOST_NODES)
+        × ((node : ℕ) → node < MOST_NODES → slice_index_or nodes.lost node false ≡ is_lost (words_of nodes.lists) node) };
 }
 
 impl Nodes {
@@ -45,9 +48,7 @@ impl Nodes {
         requires nodes { length lists.items ≤ MOST_NODES }
         ensures { result ≡ map (λ list. list.items) lists.items }
     {
-        Nodes {
-            lists: Lists::Whole(lists),
-        }
+        Nodes::of_lists(Lists::Whole(lists))
     }
 
     /// Nodes with these words, in pages.
@@ -56,9 +57,22 @@ impl Nodes {
         requires nodes { length lists.items ≤ MOST_NODES }
         ensures { result ≡ lists.items }
     {
-        Nodes {
-            lists: Lists::Paged(lists),
+        Nodes::of_lists(Lists::Paged(lists))
+    }
+
+    fn of_lists(lists: Lists) -> Nodes
+        requires statuses { MOST_NODES ≤ length (words_on (words_of lists) 0) }
+        requires nodes { length (words_of lists) ≤ MOST_NODES }
+        ensures { result ≡ words_of lists }
+    {
+        let mut lost = [false; MOST_NODES];
+        for node in 1..MOST_NODES {
+            lost[node] = lists.word(Place {
+                node: 0,
+                at: node as u32,
+            }) != 0;
         }
+        Nodes { lists, lost }
     }
 
     /// The word at a place.
@@ -83,6 +97,7 @@ impl Nodes {
     ///
     /// With `refuse`, a verb to a lost node answers `Lost` and changes nothing. Without it the verb
     /// is done there too, as one that was on its way when the node was lost.
+    #[inline(always)]
     pub fn apply(&mut self, verb: Verb, refuse: bool) -> Answer
         requires { HasPlace self.old (place_of verb) }
         ensures answer { result ≡ answer_to self.old verb refuse }
@@ -109,7 +124,7 @@ impl Nodes {
         requires { node < length self.now }
         ensures { result ≡ is_lost self.now node }
     {
-        node != 0 && self.lists.word(Place { node: 0, at: node }) != 0
+        self.lost[node as usize]
     }
 
     fn store(&mut self, place: Place, word: u64)
@@ -117,6 +132,10 @@ impl Nodes {
         ensures { self.new ≡ with_word self.old place word }
     {
         self.lists.store(place, word);
+        let at = place.at as usize;
+        if place.node == 0 && at != 0 && at < MOST_NODES {
+            self.lost[at] = word != 0;
+        }
     }
 }
 

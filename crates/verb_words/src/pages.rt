@@ -98,9 +98,24 @@ fn own_page(table: &mut Vec<u32>, store: &mut Vec<u64>, page: usize)
     ensures words { (count : ℕ) → count ≤ 512 * length table.old.items
         → words_in table.new.items store.new.items count ≡ words_in table.old.items store.old.items count }
 {
-    if table[page] != 0 {
-        return;
+    if table[page] == 0 {
+        add_page(table, store, page);
     }
+}
+
+// Gives a page that has none a place of its own in the store. Never inlined: few writes need it, and
+// each verb has the code of a write.
+#[inline(never)]
+fn add_page(table: &mut Vec<u32>, store: &mut Vec<u64>, page: usize)
+    requires pages { ArePages table.old.items store.old.items (vec_capacity store.old) }
+    requires within { page < length table.old.items }
+    requires none { slice_index table.old.items page ≡ 0 }
+    ensures pages { ArePages table.new.items store.new.items (vec_capacity store.new) }
+    ensures own { slice_index table.new.items page ≢ 0 }
+    ensures table { length table.new.items ≡ length table.old.items }
+    ensures words { (count : ℕ) → count ≤ 512 * length table.old.items
+        → words_in table.new.items store.new.items count ≡ words_in table.old.items store.old.items count }
+{
     let room = store.len();
     table[page] = (room / PAGE) as u32;
     store.resize(room + PAGE, 0).unwrap();

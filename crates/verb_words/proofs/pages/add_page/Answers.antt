@@ -1,21 +1,20 @@
 use Rattle.std.proofs.Common.{◌≡◌, ◌+◌, ◌-◌, ◌/◌, ◌++◌, if◌then◌else◌, take, replicate, set, arith, ap, sym, ◌∙◌, subst}
 use Rattle.std.specs.Result.{is_ok}
-use Rattle.std.proofs.lemmas.Grind.{get_or_default_zero}
 use Rattle.verb_words.specs.Pages.{ArePages, words_in, with_page}
 use Rattle.verb_words.proofs.PagesLemmas.{own_pages-absent, ArePages-own, words_in-own, filled-page}
-use Rattle.verb_words.proofs.pages.own_page.Goals as goal
+use Rattle.verb_words.proofs.pages.add_page.Goals as goal
 
 pub overflow_cast-room : goal.overflow_cast-room
 overflow_cast-room c =
     let pages = c.requires.pages in
-    let none = sym (get_or_default_zero c.args.table.now.items c.args.page _ c.requires.within) ∙ sym c.index.ensures ∙ c.if-index-ne0.false in
+    let none = c.requires.none in
     let room = own_pages-absent c.args.table.now.items c.args.page c.requires.within none in
     omega (arith, c.len-room.ensures, c.args.store.now.ok.0, pages.few, pages.size, room)
 
 pub unwrap-requires : goal.unwrap-requires
 unwrap-requires c =
     let pages = c.requires.pages in
-    let none = sym (get_or_default_zero c.args.table.now.items c.args.page _ c.requires.within) ∙ sym c.index.ensures ∙ c.if-index-ne0.false in
+    let none = c.requires.none in
     let room = own_pages-absent c.args.table.now.items c.args.page c.requires.within none in
     c.resize.ensures.succeeds (omega (arith, c.len-room.ensures, c.args.store.now.ok.0, pages.size, pages.reserved, room))
 
@@ -35,7 +34,7 @@ returns-clause-pages c =
     let store = c.args.store.now.items in
     let pages = c.requires.pages in
     let place = c.len-room.result / 512 in
-    let none = sym (get_or_default_zero table c.args.page _ c.requires.within) ∙ sym c.index.ensures ∙ c.if-index-ne0.false in
+    let none = c.requires.none in
     subst (λ s. ArePages (set table c.args.page place) s c.resize.new.self.cap) (sym (grown c))
     (ArePages-own table store c.args.store.now.cap pages c.args.page place c.resize.new.self.cap c.requires.within none
     (omega (arith, c.len-room.ensures, c.args.store.now.ok.0, pages.size)) c.resize.ensures.capacity)
@@ -46,7 +45,7 @@ returns-clause-words c count fits =
     let store = c.args.store.now.items in
     let pages = c.requires.pages in
     let place = c.len-room.result / 512 in
-    let none = sym (get_or_default_zero table c.args.page _ c.requires.within) ∙ sym c.index.ensures ∙ c.if-index-ne0.false in
+    let none = c.requires.none in
     ap (λ s. words_in (set table c.args.page place) s count) (grown c)
     ∙ words_in-own table store c.args.store.now.cap pages c.args.page place c.resize.new.self.cap c.requires.within none
     (omega (arith, c.len-room.ensures, c.args.store.now.ok.0, pages.size)) c.resize.ensures.capacity count fits
