@@ -1,14 +1,29 @@
-//! The words that a pool opens with, in pages: those of zeros alone take no memory yet.
+//! The words that a pool opens with: whole where they are few, and else in pages, of which those of
+//! zeros alone take no memory yet.
 
 ghost use Rattle.std.specs.Prelude.{◌≡◌, ◌+◌, ◌-◌, ◌^◌, ◌≤◌, ℕ, List, ◌++◌, IfOk, length, replicate};
 ghost use Rattle.region_view.specs.Opening.{first_control, first_node, first_words_of};
 
-use region_view::Shape;
+use region_view::{Shape, first_words, words};
 use std::alloc::{AllocError, Global};
 use verb_words::{Nodes, Pages};
 
+/// Up to how many words a pool opens whole: 512 KiB are written sooner than a long script has looked
+/// up its pages.
+const FEW_WORDS: u64 = 65_536;
+
 /// The nodes of a pool of this shape as it opens.
 pub(crate) fn first_nodes(alloc: Global, shape: &Shape) -> Result<Nodes, AllocError>
+    ensures { IfOk result (λ nodes. nodes ≡ first_words_of shape.now) }
+{
+    if words(shape) > FEW_WORDS {
+        return nodes_in_pages(alloc, shape);
+    }
+    prove!(shape.nodes <= 8);
+    Ok(Nodes::of_words(first_words(alloc, shape)?))
+}
+
+fn nodes_in_pages(alloc: Global, shape: &Shape) -> Result<Nodes, AllocError>
     ensures { IfOk result (λ nodes. nodes ≡ first_words_of shape.now) }
 {
     let mut lists = Vec::with_capacity(alloc, 1 + shape.nodes as usize)?;
