@@ -82,11 +82,19 @@ const HOSTILE: [(&[u8], u8, &[u8]); 11] = [
     ),
 ];
 
+// A pool of 661,616 words, most of which are never written.
+const LARGE: &[u8] =
+    b"shape 2 2 20 32 1 1 10\nregister\nput 1 a 1\nlose 1\nsettle\nget 1 a\njoin 1\nput 1 a 2\nget 1 a\ncount\n";
+
+const LARGE_OUTPUT: &[u8] =
+    b"client 1\ncalled 1 1 put a 1\nended 1 1 Done\nlost 1\nopened 0000000000020002\ncalled 1 2 get a\nended 1 2 Value 1\njoined 1\ncalled 1 3 put a 2\nended 1 3 Done\ncalled 1 4 get a\nended 1 4 Value 2\nblocks unused 639 owned 1 awaiting 0 released 0\nobjects stock 63 present 1 held 0\nhistory 4\nh 1 1 put a 1 Done\nh 1 2 get a Value 1\nh 1 3 put a 2 Done\nh 1 4 get a Value 2\nend\n";
+
 #[test]
-fn hostile_texts_are_told_apart(rt: HostRuntime) -> Result<(), Fail> {
+fn texts_of_any_size_are_told_apart(rt: HostRuntime) -> Result<(), Fail> {
     for (input, status, output) in HOSTILE {
         check_script(&rt, input, status, output)?;
     }
+    check_script(&rt, LARGE, 0, LARGE_OUTPUT)?;
     check_long(&rt, 4_194_304, 0, b"history 0\nend\n")?;
     check_long(&rt, 4_194_305, 7, b"too large 4194305\n")?;
     Ok(())

@@ -1,4 +1,4 @@
-use Rattle.std.proofs.Common.{◌≡◌, ◌∙◌, List, ℕ, ap, false, subst}
+use Rattle.std.proofs.Common.{◌≡◌, ◌∙◌, ap, false, subst}
 use Rattle.machine_world.specs.World.{first_world}
 use Rattle.script_meaning.specs.Scripts.{rendered, runs}
 use Rattle.script_run.specs.Written.{Writes}
