@@ -6,7 +6,7 @@ ghost use Rattle.machine_world.specs.Standing.{node_sizes};
 ghost use Rattle.world_ledger.specs.NamedUnits.{AreNamed, has_unit, unit_place};
 ghost use Rattle.world_ledger.specs.Seen.{IsUnit};
 
-use crate::readings::deciding_word;
+use crate::readings::{primary_of, word_of_slot};
 use key_test::object_in;
 use object_form::{region_of, unit_of};
 use region_view::Shape;
@@ -22,8 +22,9 @@ pub(crate) fn add_named_units(units: &mut [u64; MOST_BLOCKS], nodes: &Nodes, sha
     requires none { (pointer : ℕ) → has_unit units.old pointer ≡ false }
     ensures { AreNamed shape.now nodes.now units.new }
 {
+    let primary = primary_of(nodes, shape, 0);
     for slot in 0..24 * shape.groups {
-        if let Some(object) = object_in(shape, deciding_word(nodes, shape, slot)) {
+        if let Some(object) = object_in(shape, word_of_slot(nodes, shape, primary, slot)) {
             add_unit(units, shape, object.pointer);
         }
     }

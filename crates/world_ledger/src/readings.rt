@@ -84,8 +84,23 @@ pub fn deciding_word(nodes: &Nodes, shape: &Shape, slot: u32) -> u64
     requires slot { slot < 24 * shape.now.groups }
     ensures { result ≡ deciding_word shape.now nodes.now slot }
 {
-    let node = primary_of(nodes, shape, 0);
-    nodes.word(Place { node, at: slot })
+    let primary = primary_of(nodes, shape, 0);
+    word_of_slot(nodes, shape, primary, slot)
+}
+
+/// The same, where the primary of the index is known.
+pub(crate) fn word_of_slot(nodes: &Nodes, shape: &Shape, primary: u32, slot: u32) -> u64
+    requires whole { map length nodes.now ≡ node_sizes shape.now }
+    requires primary { primary ≡ primary_of shape.now nodes.now 0 }
+    requires least { 1 ≤ primary }
+    requires most { primary ≤ shape.now.nodes }
+    requires slot { slot < 24 * shape.now.groups }
+    ensures { result ≡ deciding_word shape.now nodes.now slot }
+{
+    nodes.word(Place {
+        node: primary,
+        at: slot,
+    })
 }
 
 /// The word at an offset of a data region, on the region's primary.

@@ -24,7 +24,7 @@ loop-slot-preserved c pointer unit =
     let test : ℕ → Bool = λ slot. names sizes pointer (deciding_word sizes nodes slot) in
     let before = list_any test (range_with_len 0 slot) in
     let at_slot : test slot ≡ option_map_or (λ (o : Object). o.pointer == pointer) c.object_in.result false =
-    sym (ap (λ found. option_map_or (λ (o : Object). o.pointer == pointer) found false) c.object_in.ensures.value ∙ ap (names sizes pointer) c.deciding_word.ensures) in
+    sym (ap (λ found. option_map_or (λ (o : Object). o.pointer == pointer) found false) c.object_in.ensures.value ∙ ap (names sizes pointer) c.word_of_slot.ensures) in
     elim c.match-object_in.branch [
       | in-Some w ↦
           let named : (w.object.inside.pointer == pointer) ≡ test slot =
