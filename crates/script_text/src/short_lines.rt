@@ -63,6 +63,7 @@ pub fn put_short_line(into: &mut ArrayVec<u8, SHORT_LINE>, out: &OutLine) -> boo
 
 /// Puts the line of an entry with its line feed, where each key and each value in it has at most 16 bytes
 /// and is printed as it is, and answers true; else nothing, and false.
+#[inline(always)]
 pub fn put_short_entry(
     into: &mut ArrayVec<u8, SHORT_LINE>,
     client: u32,
@@ -99,6 +100,7 @@ fn is_short(out: &OutLine) -> bool
     }
 }
 
+#[inline(always)]
 fn is_plain_call(call: LentCall<'_>) -> bool
     ensures { result ≡ is_plain_call (call_lent call.entry) }
 {
@@ -109,6 +111,7 @@ fn is_plain_call(call: LentCall<'_>) -> bool
     }
 }
 
+#[inline(always)]
 fn is_plain_reply(reply: LentReply<'_>) -> bool
     ensures { result ≡ is_plain_reply (reply_lent reply.entry) }
 {
@@ -148,6 +151,7 @@ fn put_ended(into: &mut ArrayVec<u8, SHORT_LINE>, client: u32, number: u32, repl
     put_reply(into, reply);
 }
 
+#[inline(always)]
 fn put_entry(
     into: &mut ArrayVec<u8, SHORT_LINE>,
     client: u32,
@@ -183,6 +187,7 @@ fn put_stored(into: &mut ArrayVec<u8, SHORT_LINE>, node: u32, at: u32, word: u64
     put_word(into, word);
 }
 
+#[inline(always)]
 fn put_call(into: &mut ArrayVec<u8, SHORT_LINE>, call: LentCall<'_>)
     requires room { length into.old.items + 38 ≤ 128 }
     requires plain { is_plain_call (call_lent call) ≡ true }
@@ -206,6 +211,7 @@ fn put_call(into: &mut ArrayVec<u8, SHORT_LINE>, call: LentCall<'_>)
     }
 }
 
+#[inline(always)]
 fn put_reply(into: &mut ArrayVec<u8, SHORT_LINE>, reply: LentReply<'_>)
     requires room { length into.old.items + 47 ≤ 128 }
     requires plain { is_plain_reply (reply_lent reply) ≡ true }
